@@ -1,1 +1,3 @@
 mod Rows
+pub mod HandsLemmas
+pub mod GivenLemmas
