@@ -1,3 +1,5 @@
 mod Rows
 pub mod HandsLemmas
 pub mod GivenLemmas
+pub mod PrintedLemmas
+mod PrintedRows

@@ -6,3 +6,4 @@ pub mod Hands
 pub mod Pending
 pub mod Given
 pub mod Outlet
+pub mod Printed

@@ -4,7 +4,11 @@
 mod fault;
 mod name;
 mod outlet;
+mod print;
+mod value;
 
 pub use name::{Name, is_name};
 pub use outlet::Outlet;
 pub use outside::{Failed, MemSink, Shelf, Sink, SureShelf};
+pub use print::write_value;
+pub use value::{Named, Value};

@@ -1,0 +1,15 @@
+use Rattle.std.proofs.Common.{◌≤◌, ℕ, List, Option, take}
+use Rattle.std.specs.Prelude.{ℤ}
+use Rattle.std.specs.List.{flat_map}
+use Rattle.data_text.specs.Pending.{Pending}
+use Rattle.data_text.specs.Given.{IsGiven}
+use Rattle.data_text.specs.Printed.{element_after}
+use Rattle.data_text.proofs.print.write_elements.Given as goal
+
+-- the elements up to here are given
+pub record IsGivenTo (items : List (List ℤ)) (i : ℕ) (before after : Pending) (written written' : Option (List ℕ)) (faults faults' : ℕ) : Type 0 where
+  pub given : IsGiven (flat_map element_after (take i items)) before after written written'
+  pub no_less : faults ≤ faults'
+
+abbrev pub invariant-loop-i : goal.invariant-loop-i
+invariant-loop-i g l = IsGivenTo l.xs.items l.i l.fn.out l.out (g.O.Sink.written l.fn.sink) (g.O.Sink.written l.sink) (g.O.Sink.faults l.fn.sink) (g.O.Sink.faults l.sink)
