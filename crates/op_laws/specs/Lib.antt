@@ -1,0 +1,8 @@
+pub mod Widths
+pub mod Tuples
+pub mod Types
+pub mod Admits
+pub mod Columns
+pub mod Elements
+pub mod Rows
+pub mod Fronts
