@@ -56,6 +56,10 @@ pub record Source : Type 0 where
 abbrev pub source_of : ℕ × List ℕ → Source
 source_of l = record { number = l.0; tokens = tokens_from 1 l.1 }
 
--- the lines that are neither empty nor comments
+-- the lines that are neither empty nor comments, where the first has this number
+abbrev pub sources_from : ℕ → List (List ℕ) → List Source
+sources_from number lines = map source_of (filter (λ l. has_words l.1) (enumerate_from number lines))
+
+-- those of a script
 abbrev pub sources_of : List ℕ → List Source
-sources_of bytes = map source_of (filter (λ l. has_words l.1) (enumerate_from 1 (lines_of bytes)))
+sources_of bytes = sources_from 1 (lines_of bytes)

@@ -1,5 +1,7 @@
 //! Scripts: three lines that add up a list.
 #![tactic(auto)]
 
+mod source;
+mod sources;
 mod word;
 mod words;
