@@ -1,6 +1,7 @@
 //! Scripts: three lines that add up a list.
 #![tactic(auto)]
 
+mod form;
 mod source;
 mod sources;
 mod word;

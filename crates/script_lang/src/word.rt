@@ -1,5 +1,5 @@
 //! A word of a line.
-ghost use Rattle.std.specs.Prelude.{◌≡◌};
+ghost use Rattle.std.specs.Prelude.{◌≡◌, ◌↔◌, IsTrue};
 
 use std::marker::Model;
 
@@ -29,5 +29,11 @@ impl<'a> Word<'a> {
         ensures { result.now ≡ self.now.text }
     {
         self.text
+    }
+
+    pub(crate) fn is(&self, text: &[u8]) -> bool
+        ensures { IsTrue result ↔ (self.now.text ≡ text.now) }
+    {
+        self.text == text
     }
 }
