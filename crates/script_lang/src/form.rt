@@ -2,8 +2,8 @@
 ghost use Rattle.std.specs.Prelude.{◌≡◌, ◌↔◌, ℕ, List, IfSome, IsSomeAnd, IsTrue};
 ghost use Rattle.script_lang.specs.Script.{Names, AreTwoNames, IsSumForm, texts, input_line, sum_line, print_line};
 
-use data_text::is_name;
 use crate::source::SourceLine;
+use data_text::is_name;
 
 /// The two names of a script that adds up a list.
 #[derive(Clone, Copy)]
