@@ -1,6 +1,7 @@
 -- Worked examples of lines and words.
-use Rattle.std.proofs.Common.{◌≡◌, ℕ, List, [], ◌∷◌, ◌++◌, refl}
-use Rattle.std.specs.Prelude.{codes}
+use Rattle.std.proofs.Common.{◌≡◌, ℕ, List, [], ◌∷◌, ◌++◌, refl, sym, ap, ◌∙◌, true, get_or, lit≤}
+use Rattle.std.specs.Prelude.{codes, bytes_eq}
+use Rattle.script_lang.specs.Script.{Names, IsSumScript}
 use Rattle.script_lang.specs.Lines.{Token, lines_of, tokens_from, sources_of}
 
 abbrev at : ℕ → List ℕ → Token
@@ -31,3 +32,39 @@ numbers : sources_of (codes "; (no\n\n  ;print x\nprint r ;\n" ++ 32 ∷ 9 ∷ 1
     ≡ record { number = 4; tokens = at 1 (codes "print") ∷ at 7 (codes "r") ∷ at 9 (codes ";") ∷ [] } ∷ record { number = 6; tokens = at 1 (codes "x") ∷ [] } ∷ []
 unfolding tokens_from
 numbers = refl
+
+abbrev named : List ℕ → List ℕ → Names
+named input result = record { input = input; result = result }
+
+-- no word is reserved, and a script needs no line feed at its end
+sum_of_input : IsSumScript (codes "; the sum\ninput input list\n\nlet list = reduce add input\n print list") (named (codes "input") (codes "list"))
+unfolding tokens_from
+sum_of_input = record {
+  short = lit≤ tt;
+  lines = record { words = refl; two_names = record { first = refl; second = refl; differ = λ e. let same : bytes_eq (codes "input") (codes "list") ≡ true = ap (λ (name : List ℕ). bytes_eq name (codes "list")) e in cc } };
+}
+
+-- a fourth line is one too many
+fourth_line : (names : Names) → IsSumScript (codes "input x list\nlet r = reduce add x\nprint r\nprint x") names → ⊥
+unfolding tokens_from
+fourth_line names h = let words = h.lines.words in cc
+
+-- a word of a line
+abbrev word_at : ℕ → ℕ → List (List (List ℕ)) → List ℕ
+word_at line word lines = get_or (get_or lines line []) word []
+
+-- what is printed is the sum
+other_name : (names : Names) → IsSumScript (codes "input x list\nlet r = reduce add x\nprint x") names → ⊥
+unfolding tokens_from
+other_name names h =
+    let bound : codes "r" ≡ names.result = ap (word_at 1 1) h.lines.words in
+    let printed : codes "x" ≡ names.result = ap (word_at 2 1) h.lines.words in
+    let same : bytes_eq (codes "r") (codes "x") ≡ true = ap (λ (name : List ℕ). bytes_eq name (codes "x")) (bound ∙ sym printed) in cc
+
+-- the sum has a name of its own
+one_name : (names : Names) → IsSumScript (codes "input x list\nlet x = reduce add x\nprint x") names → ⊥
+unfolding tokens_from
+one_name names h =
+    let input : codes "x" ≡ names.input = ap (word_at 0 1) h.lines.words in
+    let bound : codes "x" ≡ names.result = ap (word_at 1 1) h.lines.words in
+    h.lines.two_names.differ (sym input ∙ bound)

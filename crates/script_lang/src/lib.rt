@@ -13,3 +13,6 @@ mod words;
 pub use fault::ScriptFault;
 pub use reading::{MAX_SCRIPT_BYTES, read_script};
 pub use script::Script;
+
+#[cfg(test)]
+mod tests;

@@ -1,4 +1,4 @@
-use Rattle.std.proofs.Common.{◌≡◌, ◌==◌, ◌<◌, ◌+◌, ◌++◌, ◌∷◌, [], ◌∙◌, ℕ, List, get_or, length, sym, ap, rules, tests, arith, length-append}
+use Rattle.std.proofs.Common.{◌==◌, ◌∷◌, [], ◌∙◌, sym, rules, tests, arith, length-append}
 use Rattle.std.proofs.lemmas.Iterator.Splits.{YieldsList-from_slice_split}
 use Rattle.std.proofs.lemmas.Iterator.Consumers.{YieldsList-turn, YieldsList-end}
 use Rattle.script_lang.specs.Lines.{lines_of}

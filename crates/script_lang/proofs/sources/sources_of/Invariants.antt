@@ -1,6 +1,4 @@
-use Rattle.std.proofs.Common.{◌≡◌, ◌+◌, ◌++◌, List, length, drop, map}
-use Rattle.std.specs.Prelude.{filter}
-use Rattle.std.specs.List.{enumerate_from}
+use Rattle.std.proofs.Common.{◌≡◌, ◌+◌, ◌++◌, length, drop}
 use Rattle.script_lang.specs.Lines.{lines_of, sources_of, sources_from}
 use Rattle.script_lang.proofs.sources.sources_of.Given as goal
 
