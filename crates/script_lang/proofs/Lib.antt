@@ -1,0 +1,3 @@
+mod Rows
+pub mod TokenLemmas
+pub mod SourceLemmas
