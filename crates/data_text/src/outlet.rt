@@ -1,5 +1,6 @@
 //! Bytes on their way to a sink, handed on 4,096 at a time.
 ghost use Rattle.std.specs.Prelude.{◌≡◌, ◌<◌, ◌≤◌, ◌+◌, ◌-◌, ◌%◌, ◌⊎◌, ℕ, List, [], ◌∷◌, ◌++◌, length, take, min, OnOk, OnErr, IfOk, true, false};
+ghost use Rattle.std.specs.List.{flat_map};
 ghost use Rattle.std.specs.Fmt.{signed_decimal};
 ghost use Rattle.outside.specs.Outside.{Rose, Appends, AppendsFront};
 ghost use Rattle.data_text.specs.Given.{IsGiven, IsCutOff};
@@ -88,7 +89,23 @@ impl Outlet {
         Ok(())
     }
 
-    /// Gives the shortest decimal text of a number.
+    /// Gives several texts, one after another.
+    pub fn texts<O: Sink>(&mut self, sink: &mut O, texts: &[&[u8]]) -> Result<(), Failed>
+        ensures given { OnOk result (IsGiven (flat_map (λ t. t.now) texts.now) self.old self.new (O.written sink.old) (O.written sink.new)) }
+        ensures cut_off { OnErr result (IsCutOff (flat_map (λ t. t.now) texts.now) self.old self.new (O.written sink.old) (O.written sink.new) (O.faults sink.old) (O.faults sink.new)) }
+        ensures silent { self.old.failed ≡ true → sink.new ≡ sink.old }
+        ensures never_falls { O.faults sink.old ≤ O.faults sink.new }
+    {
+        if self.failed {
+            return Err(Failed);
+        }
+        for text in texts {
+            self.text(sink, text)?;
+        }
+        Ok(())
+    }
+
+    /// Gives the shortest decimal text of a number; fastest where it is one of 64 bits.
     pub fn number<O: Sink>(&mut self, sink: &mut O, v: i128) -> Result<(), Failed>
         ensures given { OnOk result (IsGiven (signed_decimal v) self.old self.new (O.written sink.old) (O.written sink.new)) }
         ensures cut_off { OnErr result (IsCutOff (signed_decimal v) self.old self.new (O.written sink.old) (O.written sink.new) (O.faults sink.old) (O.faults sink.new)) }
@@ -96,8 +113,10 @@ impl Outlet {
         ensures never_falls { O.faults sink.old ≤ O.faults sink.new }
     {
         let mut buffer = itoa::Buffer::new();
-        let digits = buffer.format(v);
-        self.text(sink, digits.as_bytes())
+        match i64::try_from(v) {
+            Ok(narrow) => self.text(sink, buffer.format(narrow).as_bytes()),
+            Err(_) => self.text(sink, buffer.format(v).as_bytes()),
+        }
     }
 
     /// Hands on the rest, where there is one.
