@@ -3,5 +3,10 @@
 
 mod fault;
 mod name;
+mod sections;
+mod value;
 
 pub use name::{Name, is_name};
+pub use outside::{Failed, MemSink, Shelf, Sink, SureShelf};
+pub use sections::Sections;
+pub use value::{Named, Value};
