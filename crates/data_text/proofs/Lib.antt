@@ -1,1 +1,4 @@
 mod Rows
+pub mod NumberLemmas
+pub mod NamedLemmas
+pub mod ParserLemmas

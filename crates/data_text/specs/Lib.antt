@@ -4,3 +4,6 @@ pub mod Fault
 pub mod Data
 pub mod Named
 pub mod OneList
+pub mod Told
+pub mod Stages
+pub mod Resume

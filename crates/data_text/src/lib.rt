@@ -3,6 +3,8 @@
 
 mod fault;
 mod name;
+mod numbers;
+mod parser;
 mod sections;
 mod value;
 

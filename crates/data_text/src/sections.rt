@@ -1,6 +1,6 @@
 //! The sections of data.
-ghost use Rattle.std.specs.Prelude.{◌≡◌, ◌≢◌, ◌<◌, ◌≤◌, ◌++◌, [], ◌∷◌, length, IfSome, IsNone, IsTrue, false, OnOk, OnErr, slice_index_or};
-ghost use Rattle.std.specs.List.{All, AllPairs, HoldsAt};
+ghost use Rattle.std.specs.Prelude.{◌≡◌, ◌≢◌, ◌<◌, ◌≤◌, ◌++◌, [], ◌∷◌, length, IfSome, IsNone, IsTrue, false, OnOk, OnErr, slice_index_or, bytes_eq, map};
+ghost use Rattle.std.specs.List.{All, AllPairs, HoldsAt, list_any};
 ghost use Rattle.data_text.specs.Named.{place_of};
 
 use crate::value::Named;
@@ -36,8 +36,17 @@ fn place(values: &[Named], name: &[u8]) -> Option<usize>
     values.iter().position(|s| s.name.bytes() == name)
 }
 
+// Whether a value has this name.
+fn has(values: &[Named], name: &[u8]) -> bool
+    ensures value { result ≡ list_any (λ s. bytes_eq s.name name.now) values.now }
+    ensures fresh { result ≡ false → All (λ s. s.name ≢ name.now) values.now }
+{
+    values.iter().any(|s| s.name.bytes() == name)
+}
+
 impl Sections {
-    ghost use Rattle.data_text.specs.Named.{AreSections, IsOfW64};
+    ghost use Rattle.data_text.specs.Named.{AreSections, IsOfW64, section_of};
+    ghost use Rattle.data_text.specs.Data.{has_name};
 
     // No sections. Takes no memory yet.
     pub(crate) fn new(alloc: Global) -> Sections
@@ -58,6 +67,14 @@ impl Sections {
     {
         self.values.push(section)?;
         Ok(())
+    }
+
+    // Whether a section has this name.
+    pub(crate) fn has(&self, name: &[u8]) -> bool
+        ensures value { result ≡ has_name name.now (map section_of self.now) }
+        ensures fresh { result ≡ false → All (λ s. s.name ≢ name.now) self.now }
+    {
+        has(&self.values, name)
     }
 
     pub fn len(&self) -> u32
