@@ -2,3 +2,7 @@ mod Rows
 pub mod NumberLemmas
 pub mod NamedLemmas
 pub mod ParserLemmas
+pub mod WordLemmas
+pub mod FaultLemmas
+pub mod ReaderLemmas
+pub mod StepLemmas

@@ -7,3 +7,5 @@ pub mod OneList
 pub mod Told
 pub mod Stages
 pub mod Resume
+pub mod Runs
+pub mod Continued

@@ -5,6 +5,8 @@ mod fault;
 mod name;
 mod numbers;
 mod parser;
+mod reader;
+mod runs;
 mod sections;
 mod value;
 
