@@ -3,3 +3,10 @@ pub mod HandsLemmas
 pub mod GivenLemmas
 pub mod PrintedLemmas
 mod PrintedRows
+pub mod NumberLemmas
+pub mod NamedLemmas
+pub mod ParserLemmas
+pub mod WordLemmas
+pub mod FaultLemmas
+pub mod ReaderLemmas
+pub mod StepLemmas

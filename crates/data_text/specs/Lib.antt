@@ -7,3 +7,10 @@ pub mod Pending
 pub mod Given
 pub mod Outlet
 pub mod Printed
+pub mod Named
+pub mod OneList
+pub mod Told
+pub mod Stages
+pub mod Resume
+pub mod Runs
+pub mod Continued

@@ -1,4 +1,8 @@
-//! Why bytes are no data.
+//! Why bytes are no data, and why reading stops.
+ghost use Rattle.std.specs.Prelude.{◌≡◌};
+ghost use Rattle.data_text.specs.declared.fault.Stop.TheVariants.{Memory};
+
+use std::alloc::{AllocError, AllocFailed};
 
 /// The first fault of data, with its byte counted from 0.
 #[derive(Clone, Copy, Debug, PartialEq, Eq)]
@@ -23,4 +27,27 @@ pub enum FormFault {
     Duplicate(u64),
     /// The name of a section for which there is no room.
     TooManySections(u64),
+}
+
+/// Why reading stops before the end of the data.
+#[derive(Clone, Copy, Debug, PartialEq, Eq)]
+pub enum Stop {
+    Memory,
+    Form(FormFault),
+}
+
+impl From<AllocError> for Stop {
+    ghost from_gives = { λ _ e. e ≡ Memory };
+
+    fn from(_e: AllocError) -> Stop {
+        Stop::Memory
+    }
+}
+
+impl<T: Drop> From<AllocFailed<T>> for Stop {
+    ghost from_gives = { λ _ e. e ≡ Memory };
+
+    fn from(_e: AllocFailed<T>) -> Stop {
+        Stop::Memory
+    }
 }

@@ -33,6 +33,14 @@ impl Name {
         Ok(Name { bytes })
     }
 
+    // The name that these bytes are.
+    pub(crate) fn of_vec(bytes: Vec<u8>) -> Name
+        requires { IsTrue (is_name bytes.items) }
+        ensures { result ≡ bytes.items }
+    {
+        Name { bytes }
+    }
+
     pub fn bytes(&self) -> &[u8]
         ensures value { result.now ≡ self.now }
         ensures form { IsTrue (is_name self.now) }

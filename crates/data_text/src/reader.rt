@@ -1,0 +1,172 @@
+//! Words from bytes.
+ghost use Rattle.std.specs.Prelude.{◌≡◌, ◌≢◌, ◌<◌, ◌≤◌, ◌+◌, ◌*◌, ℕ, List, [], ◌∷◌, ◌++◌, length, map, IsTrue, Ok, OnOk, IfOk, true, false, vec_len, drop, slice_index};
+ghost use Rattle.data_text.specs.Words.{is_blank};
+ghost use Rattle.data_text.specs.Runs.{is_solid, are_blank};
+ghost use Rattle.data_text.specs.Stages.{words_of_section};
+ghost use Rattle.data_text.specs.Resume.{words_left};
+
+use crate::fault::{FormFault, Stop};
+use crate::parser::Parser;
+use crate::runs::{blank_run, is_blank, solid_run};
+use crate::sections::Sections;
+
+/// A reader of data that comes in pieces. It keeps the word that a piece's end has cut.
+#[derive(Drop)]
+pub struct Reader {
+    pub parser: Parser,
+    pub word: Vec<u8>,
+    pub at: u64,
+    pub gap: u32,
+    ghost short: { vec_len word ≤ 40 },
+    ghost behind: { vec_len word ≤ at },
+    ghost small: { gap ≤ 65536 },
+    // No data without a fault has so many bytes that their number leaves 64 bits.
+    ghost bounded: { at + 65576 * words_left parser ≤ 65576 * (64 * words_of_section) + gap + vec_len word },
+    ghost solid: { IsTrue (is_solid word.items) },
+}
+
+impl Reader {
+    ghost use Rattle.data_text.specs.Told.{GoesOn, Gives};
+    ghost use Rattle.data_text.specs.Named.{section_of};
+    ghost use Rattle.data_text.specs.Continued.{continued};
+
+    // Hands on the word that ends here, if there is one.
+    #[inline(always)]
+    fn end_word(&mut self) -> Result<(), Stop>
+        ensures blank { (end b : ℕ) (bytes : List ℕ) → is_blank b ≡ true → GoesOn result (continued self.old end (b ∷ bytes)) (λ _. continued self.new end (b ∷ bytes)) }
+        ensures last { (end : ℕ) → GoesOn result (continued self.old end []) (λ _. continued self.new end []) }
+        ensures empty { OnOk result (self.new.word.items ≡ []) }
+        ensures at { OnOk result (self.new.at ≡ self.old.at) }
+    {
+        if !self.word.is_empty() {
+            let start = self.at - self.word.len() as u64;
+            self.parser.take(start, &self.word)?;
+            self.word.clear();
+            self.gap = 0;
+        }
+        Ok(())
+    }
+
+    // Passes so many blanks.
+    #[inline(always)]
+    fn pass_blanks(&mut self, count: usize) -> Result<(), Stop>
+        requires empty { self.old.word.items ≡ [] }
+        ensures step { (end : ℕ) (blanks bytes : List ℕ) → are_blank blanks ≡ true → length blanks ≡ count
+            → GoesOn result (continued self.old end (blanks ++ bytes)) (λ _. continued self.new end bytes) }
+        ensures at { OnOk result (self.new.at ≡ self.old.at + count) }
+    {
+        let room = 65_536 - self.gap;
+        if count > room as usize {
+            return Err(Stop::Form(FormFault::LongGap(self.at + u64::from(room))));
+        }
+        self.gap += count as u32;
+        self.at += count as u64;
+        Ok(())
+    }
+
+    // Takes a word after which a blank stands.
+    #[inline(always)]
+    fn take_word(&mut self, text: &[u8]) -> Result<(), Stop>
+        requires empty { self.old.word.items ≡ [] }
+        requires some { 0 < length text.now }
+        requires solid { is_solid text.now ≡ true }
+        ensures step { (end b : ℕ) (bytes : List ℕ) → is_blank b ≡ true
+            → GoesOn result (continued self.old end (text.now ++ b ∷ bytes)) (λ _. continued self.new end (b ∷ bytes)) }
+        ensures at { OnOk result (self.new.at ≡ self.old.at + length text.now) }
+    {
+        if text.len() > 40 {
+            return Err(Stop::Form(FormFault::LongWord(self.at)));
+        }
+        self.parser.take(self.at, text)?;
+        self.at += text.len() as u64;
+        self.gap = 0;
+        Ok(())
+    }
+
+    // Keeps bytes of a word that may go on after them.
+    fn hold(&mut self, text: &[u8]) -> Result<(), Stop>
+        requires solid { is_solid text.now ≡ true }
+        ensures step { (end : ℕ) (bytes : List ℕ) → GoesOn result (continued self.old end (text.now ++ bytes)) (λ _. continued self.new end bytes) }
+        ensures at { OnOk result (self.new.at ≡ self.old.at + length text.now) }
+    {
+        if text.len() > 40 - self.word.len() {
+            return Err(Stop::Form(FormFault::LongWord(self.at - self.word.len() as u64)));
+        }
+        self.word.extend_from_slice(text)?;
+        self.at += text.len() as u64;
+        Ok(())
+    }
+
+    // Takes the blanks that a piece begins with, and says how many.
+    #[inline(always)]
+    fn step_blank(&mut self, piece: &[u8]) -> Result<usize, Stop>
+        requires some { 0 < length piece.now }
+        requires blank { is_blank (slice_index piece.now 0) ≡ true }
+        ensures moves { IfOk result (λ n. 0 < n) }
+        ensures within { IfOk result (λ n. n ≤ length piece.now) }
+        ensures at { IfOk result (λ n. self.new.at ≡ self.old.at + n) }
+        ensures step { (end : ℕ) (bytes : List ℕ) → GoesOn result (continued self.old end (piece.now ++ bytes)) (λ n. continued self.new end (drop n piece.now ++ bytes)) }
+    {
+        let count = blank_run(piece);
+        self.end_word()?;
+        self.pass_blanks(count)?;
+        Ok(count)
+    }
+
+    // Takes the bytes of a word that a piece begins with, and says how many.
+    #[inline(always)]
+    fn step_solid(&mut self, piece: &[u8]) -> Result<usize, Stop>
+        requires some { 0 < length piece.now }
+        requires solid { is_blank (slice_index piece.now 0) ≡ false }
+        ensures moves { IfOk result (λ n. 0 < n) }
+        ensures within { IfOk result (λ n. n ≤ length piece.now) }
+        ensures at { IfOk result (λ n. self.new.at ≡ self.old.at + n) }
+        ensures step { (end : ℕ) (bytes : List ℕ) → GoesOn result (continued self.old end (piece.now ++ bytes)) (λ n. continued self.new end (drop n piece.now ++ bytes)) }
+    {
+        let count = solid_run(piece);
+        if count < piece.len() && self.word.is_empty() {
+            self.take_word(&piece[..count])?;
+        } else {
+            self.hold(&piece[..count])?;
+        }
+        Ok(count)
+    }
+
+    // Takes some bytes from the front of a piece, and says how many.
+    #[inline(always)]
+    fn step(&mut self, piece: &[u8]) -> Result<usize, Stop>
+        requires { 0 < length piece.now }
+        ensures moves { IfOk result (λ n. 0 < n) }
+        ensures within { IfOk result (λ n. n ≤ length piece.now) }
+        ensures at { IfOk result (λ n. self.new.at ≡ self.old.at + n) }
+        ensures step { (end : ℕ) (bytes : List ℕ) → GoesOn result (continued self.old end (piece.now ++ bytes)) (λ n. continued self.new end (drop n piece.now ++ bytes)) }
+    {
+        if is_blank(piece[0]) {
+            self.step_blank(piece)
+        } else {
+            self.step_solid(piece)
+        }
+    }
+
+    /// Takes the next piece of the data.
+    pub fn feed(&mut self, piece: &[u8]) -> Result<(), Stop>
+        ensures step { (end : ℕ) (bytes : List ℕ) → GoesOn result (continued self.old end (piece.now ++ bytes)) (λ _. continued self.new end bytes) }
+        ensures at { OnOk result (self.new.at ≡ self.old.at + length piece.now) }
+    {
+        let mut done = 0;
+        while done < piece.len() {
+            done += self.step(&piece[done..])?;
+        }
+        Ok(())
+    }
+
+    /// The sections, where the data ends here.
+    pub fn finish(mut self) -> Result<Sections, Stop>
+        ensures { Gives (λ s. map section_of s) result (continued self self.at []) }
+    {
+        self.end_word()?;
+        let end = self.at;
+        let Reader { parser, .. } = self;
+        parser.finish(end)
+    }
+}
