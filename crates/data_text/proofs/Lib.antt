@@ -6,3 +6,5 @@ pub mod WordLemmas
 pub mod FaultLemmas
 pub mod ReaderLemmas
 pub mod StepLemmas
+pub mod RemainsLemmas
+pub mod ShelfLemmas

@@ -9,3 +9,5 @@ pub mod Stages
 pub mod Resume
 pub mod Runs
 pub mod Continued
+pub mod Shelves
+pub mod Answered

@@ -1,7 +1,9 @@
 //! Data and its text: named values read from a shelf.
 #![tactic(auto)]
 
+mod data_fault;
 mod fault;
+mod loading;
 mod name;
 mod numbers;
 mod parser;
@@ -10,6 +12,7 @@ mod runs;
 mod sections;
 mod value;
 
+pub use data_fault::DataFault;
 pub use name::{Name, is_name};
 pub use outside::{Failed, MemSink, Shelf, Sink, SureShelf};
 pub use sections::Sections;
