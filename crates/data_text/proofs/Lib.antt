@@ -8,3 +8,4 @@ pub mod ReaderLemmas
 pub mod StepLemmas
 pub mod RemainsLemmas
 pub mod ShelfLemmas
+pub mod ListingLemmas

@@ -11,3 +11,4 @@ pub mod Runs
 pub mod Continued
 pub mod Shelves
 pub mod Answered
+pub mod Listing
