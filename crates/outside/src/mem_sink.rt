@@ -71,7 +71,7 @@ impl Sink for MemSink {
     ghost faults = { λ s. s.faults };
 
     fn put(&mut self, bytes: &[u8]) -> Result<(), Failed>
-        requires some { 0 < length bytes.now }
+        requires { 0 < length bytes.now }
         ensures fails { is_ok result ≡ not (fails_at self.old (length bytes.now)) }
         ensures after { self.new ≡ after_put self.old bytes.now }
 
