@@ -1,5 +1,5 @@
 -- A fault of one name and the counts of the others.
-use Rattle.std.proofs.Common.{◌≡◌, ◌≢◌, ℕ, false, List, Option, Some, None, get_or-set_other, sym, ap, ◌∙◌, refl}
+use Rattle.std.proofs.Common.{◌≡◌, ◌≢◌, ℕ, false, List, Option, Some, None, get_or-set_other, ap, ◌∙◌, refl}
 use Rattle.std.specs.Prelude.{IsSome, IfSome, option_and_then}
 use Rattle.outside.specs.Outside.{OthersKept, raised}
 use Rattle.outside.specs.Files.{File, file_of, place_of, content_of, with_reading}

@@ -1,4 +1,4 @@
-//! Where the bytes of a run come from and where they go to, and devices in memory that fail as they are told.
+//! Where a run reads and writes its bytes, and devices in memory that fail as they are told.
 #![tactic(auto)]
 
 mod device;

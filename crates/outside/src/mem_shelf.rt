@@ -27,19 +27,14 @@ pub struct MemShelf {
 
 impl Model for MemShelf {
     ghost use Rattle.outside.specs.MemShelf.{MemShelfState};
-    ghost use Rattle.outside.specs.MemShelfLayout.{IsKept};
 
     ghost Value = { MemShelfState };
 
-    ghost view = { λ s. record {
-        held = s.held; piece = s.piece; fails = s.fails.items; calls = s.calls; counts = s.counts.items;
-        missed = s.missed
-    } };
+    ghost use Rattle.outside.specs.MemShelfLayout.{state_of, IsKept};
 
-    ghost invariant = { λ s. IsKept record {
-        held = s.held; piece = s.piece; fails = s.fails.items; calls = s.calls; counts = s.counts.items;
-        missed = s.missed
-    } };
+    ghost view = { state_of };
+
+    ghost invariant = { IsKept };
 }
 
 impl MemShelf {
@@ -56,8 +51,12 @@ impl MemShelf {
     ) -> Result<MemShelf, AllocError>
         requires { 0 < piece }
         ensures { IfOk result (λ s. s ≡ record {
-            held = record { files = file_list files.items; reading = None }; piece = piece; fails = fails.items;
-            calls = 0; counts = replicate (length files.items) 0; missed = 0
+          held = record { files = file_list files.items; reading = None };
+          piece = piece;
+          fails = fails.items;
+          calls = 0;
+          counts = replicate (length files.items) 0;
+          missed = 0;
         }) }
     {
         let counts = vec![in alloc; 0u64; files.len()]?;
@@ -112,7 +111,8 @@ impl Shelf for MemShelf {
         ensures cause { OnErr result (Rose (faults_of self.old name.now) (faults_of self.new name.now)) }
         ensures never_falls { NoneFell (faults_of self.old) (faults_of self.new) }
         ensures capped { AllCapped (faults_of self.new) }
-        ensures others { OthersKept (content_of self.old.held.files) name.now (faults_of self.old) (faults_of self.new) }
+        ensures others { OthersKept (content_of self.old.held.files) name.now
+            (faults_of self.old) (faults_of self.new) }
     {
         let planned = self.count_call();
         match self.held.place(name) {
@@ -137,14 +137,17 @@ impl Shelf for MemShelf {
             (λ n. buf.new ≡ take n (rest_of self.old.held) ++ drop n buf.old) }
         ensures ok { IfOk result (λ n. self.new ≡ after_read self.old n) }
         ensures err { OnErr result (self.new ≡ after_failed_read self.old) }
+        ensures untouched { OnErr result (buf.new ≡ buf.old) }
 
         ensures end { IfOk result (λ n. n ≡ 0 → length (rest_of self.old.held) ≡ 0) }
         ensures cause { OnErr result
-            (IfSome self.old.held.reading (λ f. Rose (faults_of self.old f.name) (faults_of self.new f.name))) }
+            (IfSome self.old.held.reading
+            (λ f. Rose (faults_of self.old f.name) (faults_of self.new f.name))) }
         ensures never_falls { NoneFell (faults_of self.old) (faults_of self.new) }
         ensures capped { AllCapped (faults_of self.new) }
         ensures others { IfSome self.old.held.reading
-            (λ f. OthersKept (content_of self.old.held.files) f.name (faults_of self.old) (faults_of self.new)) }
+            (λ f. OthersKept (content_of self.old.held.files) f.name
+            (faults_of self.old) (faults_of self.new)) }
     {
         if self.count_call() {
             let place = self.held.open_place();

@@ -21,21 +21,15 @@ pub struct MemSink {
 }
 
 impl Model for MemSink {
-    ghost use Rattle.std.specs.Prelude.{◌≤◌, vec_len, vec_capacity};
-    ghost use Rattle.outside.specs.Outside.{greatest_count};
     ghost use Rattle.outside.specs.MemSink.{MemSinkState};
 
     ghost Value = { MemSinkState };
 
-    ghost view = { λ s. record {
-      written = s.bytes.items;
-      room = s.room;
-      fails = s.fails.items;
-      calls = s.calls;
-      faults = s.faults;
-    } };
+    ghost use Rattle.outside.specs.MemSinkLayout.{state_of, IsKept};
 
-    ghost invariant = { λ s. (vec_len s.bytes ≤ s.room) × (s.room ≤ vec_capacity s.bytes) × (s.faults ≤ greatest_count) };
+    ghost view = { state_of };
+
+    ghost invariant = { IsKept };
 }
 
 impl MemSink {
@@ -75,7 +69,8 @@ impl Sink for MemSink {
         ensures fails { is_ok result ≡ not (fails_at self.old (length bytes.now)) }
         ensures after { self.new ≡ after_put self.old bytes.now }
 
-        ensures err { OnErr result (AppendsFront (Some self.old.written) (Some self.new.written) bytes.now) }
+        ensures err { OnErr result
+            (AppendsFront (Some self.old.written) (Some self.new.written) bytes.now) }
         ensures never_falls { self.old.faults ≤ self.new.faults }
         ensures capped { self.new.faults ≤ greatest_count }
     {

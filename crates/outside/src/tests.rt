@@ -8,7 +8,10 @@ use std::test::Fail;
 fn files(alloc: Global) -> Result<Vec<(String, Vec<u8>)>, AllocError> {
     let mut files = Vec::new(alloc);
     for (name, text) in [("a", "abcde"), ("b", ""), ("a", "no")] {
-        files.push((String::from_str(alloc, name)?, text.as_bytes().to_vec(alloc)?))?;
+        files.push((
+            String::from_str(alloc, name)?,
+            text.as_bytes().to_vec(alloc)?,
+        ))?;
     }
     Ok(files)
 }
@@ -49,7 +52,11 @@ fn a_shelf_gives_its_files_in_pieces_and_fails_as_planned(rt: HostRuntime) -> Re
         assert!(rt; piece > 0);
         let mut shelf = MemShelf::new(alloc, files(alloc)?, piece, fails.to_vec(alloc)?)?;
         let log = told(alloc, &mut shelf, name)?;
-        assert_eq!(rt; log.as_slice(), want.as_bytes(), "{name} by {piece}, {fails:?} fail");
+        assert_eq!(rt;
+            log.as_slice(),
+            want.as_bytes(),
+            "{name} by {piece}, {fails:?} fail"
+        );
     }
     for (name, want) in [("a", "3abc2de0000"), ("b", "000000"), ("c", "!")] {
         let mut shelf = SureShelf::new(alloc, files(alloc)?);
@@ -61,7 +68,11 @@ fn a_shelf_gives_its_files_in_pieces_and_fails_as_planned(rt: HostRuntime) -> Re
 
 // Puts three texts, and answers which of the puts were Ok.
 fn puts<O: Sink>(sink: &mut O) -> [bool; 3] {
-    [sink.put(b"abc").is_ok(), sink.put(b"defgh").is_ok(), sink.put(b"ij").is_ok()]
+    [
+        sink.put(b"abc").is_ok(),
+        sink.put(b"defgh").is_ok(),
+        sink.put(b"ij").is_ok(),
+    ]
 }
 
 #[test]
@@ -77,7 +88,11 @@ fn a_sink_takes_what_fits_and_fails_as_planned(rt: HostRuntime) -> Result<(), Fa
     ] {
         let mut sink = MemSink::new(alloc, room, fails.to_vec(alloc)?)?;
         assert_eq!(rt; puts(&mut sink), want, "room {room}, {fails:?} fail");
-        assert_eq!(rt; sink.bytes(), written.as_bytes(), "room {room}, {fails:?} fail");
+        assert_eq!(rt;
+            sink.bytes(),
+            written.as_bytes(),
+            "room {room}, {fails:?} fail"
+        );
     }
     Ok(())
 }
