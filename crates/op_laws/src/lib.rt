@@ -16,6 +16,6 @@ pub use list::List;
 pub use tup::Tup;
 pub use width::Width;
 
-/// How many elements a list has at most. The sum of so many numbers of one width, if there is a
-/// next width, is a number of that.
+/// How many elements a list has at most. So many numbers of one width have a sum inside the next
+/// width.
 pub const MAX_ELEMENTS: u32 = 4_294_967_295;

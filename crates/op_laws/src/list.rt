@@ -72,8 +72,8 @@ impl List {
         }
     }
 
-    /// Adds an element at the end. It takes memory each time the length comes to a power of two, or
-    /// so. All columns grow before one gets its number, so after a refusal the list is what it was.
+    /// Adds an element at the end. It takes memory only where a column is full. All columns grow
+    /// before one gets its number, so after a refusal the list is what it was.
     pub fn push(&mut self, t: Tup) -> Result<(), AllocError>
         requires admitted { Admits self.old.ty t }
         requires room { length self.old.items < MAX_ELEMENTS }
