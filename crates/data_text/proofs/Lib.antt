@@ -10,3 +10,6 @@ pub mod WordLemmas
 pub mod FaultLemmas
 pub mod ReaderLemmas
 pub mod StepLemmas
+pub mod RemainsLemmas
+pub mod ShelfLemmas
+pub mod ListingLemmas

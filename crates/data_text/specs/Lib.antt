@@ -14,3 +14,6 @@ pub mod Stages
 pub mod Resume
 pub mod Runs
 pub mod Continued
+pub mod Shelves
+pub mod Answered
+pub mod Listing

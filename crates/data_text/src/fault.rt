@@ -1,6 +1,7 @@
 //! Why bytes are no data, and why reading stops.
 ghost use Rattle.std.specs.Prelude.{◌≡◌};
 ghost use Rattle.data_text.specs.declared.fault.Stop.TheVariants.{Memory};
+ghost use Rattle.data_text.specs.declared.fault.LoadFault.TheVariants.{Stopped};
 
 use std::alloc::{AllocError, AllocFailed};
 
@@ -49,5 +50,30 @@ impl<T: Drop> From<AllocFailed<T>> for Stop {
 
     fn from(_e: AllocFailed<T>) -> Stop {
         Stop::Memory
+    }
+}
+
+/// Why no sections were read.
+#[derive(Clone, Copy, Debug, PartialEq, Eq)]
+pub enum LoadFault {
+    /// The shelf failed.
+    Read,
+    /// The data is at fault, or memory ran out.
+    Stopped(Stop),
+}
+
+impl From<Stop> for LoadFault {
+    ghost from_gives = { λ stop e. e ≡ Stopped stop };
+
+    fn from(stop: Stop) -> LoadFault {
+        LoadFault::Stopped(stop)
+    }
+}
+
+impl From<AllocError> for LoadFault {
+    ghost from_gives = { λ _ e. e ≡ Stopped Memory };
+
+    fn from(_e: AllocError) -> LoadFault {
+        LoadFault::Stopped(Stop::Memory)
     }
 }

@@ -1,3 +1,4 @@
+pub mod Conjunctions
 pub mod RowLemmas
-pub mod Tests
 pub mod ColumnLemmas
+pub mod TableLemmas

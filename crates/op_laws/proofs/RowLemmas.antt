@@ -1,98 +1,83 @@
--- The element at a place of a table.
-use Rattle.std.proofs.Common.{◌≡◌, ℕ, zero, suc, ◌+◌, ◌<◌, ℤ, pos, List, [], ◌∷◌, ◌++◌, length, get_or, refl, ap, arith, ◌∙◌, sym}
-use Rattle.std.proofs.lemmas.List.{length-append}
+-- Rows and columns of numbers.
+use Rattle.std.proofs.Common.{◌≡◌, ℕ, zero, suc, ◌+◌, ◌<◌, ℤ, pos, List, [], ◌∷◌, ◌++◌, length, get_or, map, refl, ap, arith, ◌∙◌, sym}
+use Rattle.std.proofs.Math.Seq.{get_or-append_seam}
+use Rattle.std.proofs.lemmas.List.{length-map, length-append, append_assoc, map_push, get_or-map}
 use Rattle.std.specs.List.{All}
 use Rattle.std.proofs.lemmas.List.Elements.{All-get_or}
 use Rattle.op_laws.specs.declared.width.Width.{Width}
-use Rattle.op_laws.specs.Fronts.{in_front}
-use Rattle.op_laws.specs.Elements.{singles}
 use Rattle.op_laws.specs.Admits.{Admits}
+use Rattle.op_laws.specs.Rows.{in_front, rows, AreOfLength, AreEven, with_row}
 
-pub get_or-singles : (xs : List ℤ) (i : ℕ) → i < length xs → get_or (singles xs) i [] ≡ get_or xs i (pos 0) ∷ []
-get_or-singles [] i h = absurd (omega arith)
-get_or-singles (x ∷ xs) zero h = refl
-get_or-singles (x ∷ xs) (suc i) h = get_or-singles xs i (omega arith)
+length-in_front : (n : ℕ) (xs : List ℤ) (rs : List (List ℤ)) → length xs ≡ n → length rs ≡ n → length (in_front xs rs) ≡ n
+length-in_front n [] rs h k = h
+length-in_front n (x ∷ xs) [] h k = absurd (omega arith)
+length-in_front n (x ∷ xs) (r ∷ rs) h k = ap suc (length-in_front (length xs) xs rs refl (omega arith)) ∙ h
 
-pub length-singles : (xs : List ℤ) → length (singles xs) ≡ length xs
-length-singles [] = refl
-length-singles (x ∷ xs) = ap suc (length-singles xs)
+-- there are as many rows as each column has numbers
+pub length-rows : (n : ℕ) (xs : List ℤ) (xss : List (List ℤ)) → AreOfLength n (xs ∷ xss) → length (rows (xs ∷ xss)) ≡ n
+length-rows n xs [] h = length-map xs (λ x. x ∷ []) ∙ h.0
+length-rows n xs (ys ∷ yss) h = length-in_front n xs (rows (ys ∷ yss)) h.0 (length-rows n ys yss h.1)
 
-pub get_or-in_front : (xs : List ℤ) (ys : List (List ℤ)) (i : ℕ) → i < length xs → i < length ys → get_or (in_front xs ys) i [] ≡ get_or xs i (pos 0) ∷ get_or ys i []
-get_or-in_front [] ys i h k = absurd (omega arith)
-get_or-in_front (x ∷ xs) [] i h k = absurd (omega arith)
-get_or-in_front (x ∷ xs) (y ∷ ys) zero h k = refl
-get_or-in_front (x ∷ xs) (y ∷ ys) (suc i) h k = get_or-in_front xs ys i (omega arith) (omega arith)
+get_or-in_front : (i : ℕ) (xs : List ℤ) (rs : List (List ℤ)) → i < length xs → i < length rs → get_or (in_front xs rs) i [] ≡ get_or xs i (pos 0) ∷ get_or rs i []
+get_or-in_front i [] rs h k = absurd (omega arith)
+get_or-in_front i (x ∷ xs) [] h k = absurd (omega arith)
+get_or-in_front zero (x ∷ xs) (r ∷ rs) h k = refl
+get_or-in_front (suc i) (x ∷ xs) (r ∷ rs) h k = get_or-in_front i xs rs (omega arith) (omega arith)
 
-pub length-in_front : (xs : List ℤ) (ys : List (List ℤ)) → length xs ≡ length ys → length (in_front xs ys) ≡ length xs
-length-in_front [] ys h = refl
-length-in_front (x ∷ xs) [] h = absurd (omega arith)
-length-in_front (x ∷ xs) (y ∷ ys) h = ap suc (length-in_front xs ys (omega arith))
+-- the row at a place has the number of each column there
+pub get_or-rows : (n i : ℕ) (xs : List ℤ) (xss : List (List ℤ)) → AreOfLength n (xs ∷ xss) → i < n → get_or (rows (xs ∷ xss)) i [] ≡ map (λ ys. get_or ys i (pos 0)) (xs ∷ xss)
+get_or-rows n i xs [] h k = get_or-map (λ x. x ∷ []) xs i (pos 0) [] (omega arith)
+get_or-rows n i xs (ys ∷ yss) h k =
+    let within : i < length (rows (ys ∷ yss)) = omega (arith, length-rows n ys yss h.1) in
+    get_or-in_front i xs (rows (ys ∷ yss)) (omega arith) within
+    ∙ ap (λ r. get_or xs i (pos 0) ∷ r) (get_or-rows n i ys yss h.1 k)
 
--- an element more
-pub singles_push : (xs : List ℤ) (x : ℤ) → singles (xs ++ x ∷ []) ≡ singles xs ++ (x ∷ []) ∷ []
-singles_push [] x = refl
-singles_push (y ∷ xs) x = ap (λ t. (y ∷ []) ∷ t) (singles_push xs x)
+in_front-push : (xs : List ℤ) (rs : List (List ℤ)) (x : ℤ) (r : List ℤ) → length xs ≡ length rs → in_front (xs ++ x ∷ []) (rs ++ r ∷ []) ≡ in_front xs rs ++ (x ∷ r) ∷ []
+in_front-push [] [] x r h = refl
+in_front-push [] (s ∷ rs) x r h = absurd (omega arith)
+in_front-push (y ∷ xs) [] x r h = absurd (omega arith)
+in_front-push (y ∷ xs) (s ∷ rs) x r h = ap (λ t. (y ∷ s) ∷ t) (in_front-push xs rs x r (omega arith))
 
-pub in_front_push : (xs : List ℤ) (ys : List (List ℤ)) (x : ℤ) (y : List ℤ) → length ys ≡ length xs → in_front (xs ++ x ∷ []) (ys ++ y ∷ []) ≡ in_front xs ys ++ (x ∷ y) ∷ []
-in_front_push [] [] x y e = refl
-in_front_push [] (z ∷ ys) x y e = absurd (omega arith)
-in_front_push (z ∷ xs) [] x y e = absurd (omega arith)
-in_front_push (z ∷ xs) (w ∷ ys) x y e = ap (λ t. (z ∷ w) ∷ t) (in_front_push xs ys x y (omega arith))
+-- with one row more, each column is longer by one
+pub AreOfLength-with_row : (n k : ℕ) (xss : List (List ℤ)) (t : List ℤ) → AreOfLength n xss → AreOfLength (n + 1) (with_row k xss t)
+AreOfLength-with_row n k [] t h = tt
+AreOfLength-with_row n k (xs ∷ xss) t h =
+    (length-append xs (get_or t k (pos 0) ∷ []) ∙ ap (λ m. m + 1) h.0, AreOfLength-with_row n (k + 1) xss t h.1)
 
-pub push_three : (xs ys zs xs' ys' zs' : List ℤ) (x y z : ℤ) → length ys ≡ length xs → length zs ≡ length xs → xs' ≡ xs ++ x ∷ [] → ys' ≡ ys ++ y ∷ [] → zs' ≡ zs ++ z ∷ [] → in_front xs' (in_front ys' (singles zs')) ≡ in_front xs (in_front ys (singles zs)) ++ (x ∷ y ∷ z ∷ []) ∷ []
-push_three xs ys zs xs' ys' zs' x y z b c p q r =
-    let e : length (in_front ys (singles zs)) ≡ length xs = length-in_front ys (singles zs) (b ∙ sym c ∙ sym (length-singles zs)) ∙ b in
-    rw (p, q, r, singles_push, in_front_push ys (singles zs) y (z ∷ []) (length-singles zs ∙ c ∙ sym b)) (in_front_push xs (in_front ys (singles zs)) x (y ∷ z ∷ []) e)
+-- the number of a row at the place where its last part begins
+pub get_or-seam : (k : ℕ) (before after row : List ℤ) (x : ℤ) → length before ≡ k → row ≡ before ++ x ∷ after → get_or row k (pos 0) ≡ x
+get_or-seam k before after row x e f = rw (f, ← e) (get_or-append_seam before x after (pos 0))
 
-pub push_four : (xs ys zs us xs' ys' zs' us' : List ℤ) (x y z u : ℤ) → length ys ≡ length xs → length zs ≡ length xs → length us ≡ length xs → xs' ≡ xs ++ x ∷ [] → ys' ≡ ys ++ y ∷ [] → zs' ≡ zs ++ z ∷ [] → us' ≡ us ++ u ∷ [] → in_front xs' (in_front ys' (in_front zs' (singles us'))) ≡ in_front xs (in_front ys (in_front zs (singles us))) ++ (x ∷ y ∷ z ∷ u ∷ []) ∷ []
-push_four xs ys zs us xs' ys' zs' us' x y z u b c d p q r s =
-    let e : length (in_front zs (singles us)) ≡ length zs = length-in_front zs (singles us) (c ∙ sym d ∙ sym (length-singles us)) in
-    let f : length (in_front ys (in_front zs (singles us))) ≡ length ys = length-in_front ys (in_front zs (singles us)) (b ∙ sym c ∙ sym e) in
-    ap (in_front xs') (push_three ys zs us ys' zs' us' y z u (c ∙ sym b) (d ∙ sym b) q r s)
-    ∙ rw p (in_front_push xs (in_front ys (in_front zs (singles us))) x (y ∷ z ∷ u ∷ []) (f ∙ b))
+-- these columns take the last part of the row t, the part after `before`
+rows-with_row_from : (n k : ℕ) (before after t : List ℤ) (xs : List ℤ) (xss : List (List ℤ)) → AreOfLength n (xs ∷ xss) → length after ≡ length (xs ∷ xss)
+    → length before ≡ k → t ≡ before ++ after → rows (with_row k (xs ∷ xss) t) ≡ rows (xs ∷ xss) ++ after ∷ []
+rows-with_row_from n k before [] t xs xss h m e f = absurd (omega arith)
+rows-with_row_from n k before (x ∷ y ∷ after) t xs [] h m e f = absurd (omega arith)
+rows-with_row_from n k before (x ∷ []) t xs (ys ∷ yss) h m e f = absurd (omega arith)
+rows-with_row_from n k before (x ∷ []) t xs [] h m e f = rw (get_or-seam k before [] t x e f) (map_push (λ z. z ∷ []) xs x)
+rows-with_row_from n k before (x ∷ y ∷ after) t xs (ys ∷ yss) h m e f =
+    let longer : length (before ++ x ∷ []) ≡ k + 1 = length-append before (x ∷ []) ∙ ap (λ j. j + 1) e in
+    let same : t ≡ (before ++ x ∷ []) ++ y ∷ after = f ∙ sym (append_assoc before (x ∷ []) (y ∷ after)) in
+    let rest = rows-with_row_from n (k + 1) (before ++ x ∷ []) (y ∷ after) t ys yss h.1 (omega arith) longer same in
+    let even : length xs ≡ length (rows (ys ∷ yss)) = h.0 ∙ sym (length-rows n ys yss h.1) in
+    rw (get_or-seam k before (y ∷ after) t x e f, rest) (in_front-push xs (rows (ys ∷ yss)) x (y ∷ after) even)
 
-pub one_more : (xs xs' : List ℤ) (x : ℤ) → xs' ≡ xs ++ x ∷ [] → length xs' ≡ length xs + 1
-one_more xs xs' x p = rw p (omega (arith, length-append xs (x ∷ [])))
+-- with one row more, the rows are those before and then that one
+pub rows-with_row : (xss : List (List ℤ)) (t : List ℤ) → 0 < length xss → AreEven xss → length t ≡ length xss → rows (with_row 0 xss t) ≡ rows xss ++ t ∷ []
+rows-with_row [] t some h m = absurd (omega arith)
+rows-with_row (xs ∷ xss) t some h m = rows-with_row_from _ 0 [] t t xs xss h m refl refl
 
-pub ruleset pushes = (singles_push, in_front_push, length-singles, length-in_front)
+-- with one row more, the columns are equally long again
+pub AreEven-with_row : (xss : List (List ℤ)) (t : List ℤ) → 0 < length xss → AreEven xss → length t ≡ length xss → AreEven (with_row 0 xss t)
+AreEven-with_row xss t some h m =
+    let longer : length (rows (with_row 0 xss t)) ≡ length (rows xss) + 1 = ap length (rows-with_row xss t some h m) ∙ length-append (rows xss) (t ∷ []) in
+    rw longer (AreOfLength-with_row (length (rows xss)) 0 xss t h)
 
--- an element of a table is one that its type admits
-pub admitted_at : (ty ty' : List Width) (items items' : List (List ℤ)) (i : ℕ) (r : List ℤ) → ty ≡ ty' → items ≡ items' → All (Admits ty) items → i < length items' → r ≡ get_or items' i [] → Admits ty' r
-admitted_at ty ty' items items' i r same_ty same_items all within is =
-    let moved = rw (same_ty, same_items) at all in
-    rw is (All-get_or (Admits ty') items' i [] within moved)
+-- the row at a place of equally long columns
+pub get_or-rows_at : (xss : List (List ℤ)) (i : ℕ) → AreEven xss → i < length (rows xss) → get_or (rows xss) i [] ≡ map (λ xs. get_or xs i (pos 0)) xss
+get_or-rows_at [] i h k = absurd (omega arith)
+get_or-rows_at (xs ∷ xss) i h k = get_or-rows _ i xs xss h k
 
-pub ruleset reads = (get_or-singles, length-singles, get_or-in_front, length-in_front)
-
--- an element of four numbers
-pub read_four : (xs ys zs us : List ℤ) (i : ℕ) → i < length xs → length ys ≡ length xs → length zs ≡ length xs → length us ≡ length xs → get_or (in_front xs (in_front ys (in_front zs (singles us)))) i [] ≡ get_or xs i (pos 0) ∷ get_or ys i (pos 0) ∷ get_or zs i (pos 0) ∷ get_or us i (pos 0) ∷ []
-read_four xs ys zs us i h b c d =
-    let d' : length (singles us) ≡ length xs = length-singles us ∙ d in
-    let c' : length (in_front zs (singles us)) ≡ length xs = length-in_front zs (singles us) (c ∙ sym d') ∙ c in
-    let b' : length (in_front ys (in_front zs (singles us))) ≡ length xs = length-in_front ys (in_front zs (singles us)) (b ∙ sym c') ∙ b in
-    get_or-in_front xs _ i (omega arith) (omega arith)
-    ∙ ap (λ t. get_or xs i (pos 0) ∷ t) (get_or-in_front ys _ i (omega arith) (omega arith)
-    ∙ ap (λ t. get_or ys i (pos 0) ∷ t) (get_or-in_front zs _ i (omega arith) (omega arith)
-    ∙ ap (λ t. get_or zs i (pos 0) ∷ t) (get_or-singles us i (omega arith))))
-
-pub length_three : (xs ys zs : List ℤ) → length ys ≡ length xs → length zs ≡ length xs → length (in_front xs (in_front ys (singles zs))) ≡ length xs
-length_three xs ys zs b c =
-    let c' : length (singles zs) ≡ length xs = length-singles zs ∙ c in
-    let b' : length (in_front ys (singles zs)) ≡ length xs = length-in_front ys (singles zs) (b ∙ sym c') ∙ b in
-    length-in_front xs _ (sym b')
-
-pub length_four : (xs ys zs us : List ℤ) → length ys ≡ length xs → length zs ≡ length xs → length us ≡ length xs → length (in_front xs (in_front ys (in_front zs (singles us)))) ≡ length xs
-length_four xs ys zs us b c d =
-    let d' : length (singles us) ≡ length xs = length-singles us ∙ d in
-    let c' : length (in_front zs (singles us)) ≡ length xs = length-in_front zs (singles us) (c ∙ sym d') ∙ c in
-    let b' : length (in_front ys (in_front zs (singles us))) ≡ length xs = length-in_front ys (in_front zs (singles us)) (b ∙ sym c') ∙ b in
-    length-in_front xs _ (sym b')
-
-pub even_two : (xs ys : List ℤ) → length ys ≡ length xs → (length xs ≡ length (in_front xs (singles ys))) × (length ys ≡ length (in_front xs (singles ys)))
-even_two xs ys b = let n = length-in_front xs (singles ys) (sym (length-singles ys ∙ b)) in (sym n, b ∙ sym n)
-
-pub even_three : (xs ys zs : List ℤ) → length ys ≡ length xs → length zs ≡ length xs → (length xs ≡ length (in_front xs (in_front ys (singles zs)))) × (length ys ≡ length (in_front xs (in_front ys (singles zs)))) × (length zs ≡ length (in_front xs (in_front ys (singles zs))))
-even_three xs ys zs b c = let n = length_three xs ys zs b c in (sym n, b ∙ sym n, c ∙ sym n)
-
-pub even_four : (xs ys zs us : List ℤ) → length ys ≡ length xs → length zs ≡ length xs → length us ≡ length xs → (length xs ≡ length (in_front xs (in_front ys (in_front zs (singles us))))) × (length ys ≡ length (in_front xs (in_front ys (in_front zs (singles us))))) × (length zs ≡ length (in_front xs (in_front ys (in_front zs (singles us))))) × (length us ≡ length (in_front xs (in_front ys (in_front zs (singles us)))))
-even_four xs ys zs us b c d = let n = length_four xs ys zs us b c d in (sym n, b ∙ sym n, c ∙ sym n, d ∙ sym n)
+-- an element of a list is one that its type admits
+pub admitted_at : (ty : List Width) (items : List (List ℤ)) (i : ℕ) (t : List ℤ) → All (Admits ty) items → i < length items → t ≡ get_or items i [] → Admits ty t
+admitted_at ty items i t all within is = rw is (All-get_or (Admits ty) items i [] within all)

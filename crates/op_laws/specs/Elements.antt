@@ -1,4 +1,4 @@
--- What a list is seen as.
+-- What a list of elements is seen as.
 use Rattle.std.specs.Prelude.{ℤ, List, [], ◌∷◌, map}
 use Rattle.op_laws.specs.declared.width.Width.{Width}
 

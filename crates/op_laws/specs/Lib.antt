@@ -2,7 +2,6 @@ pub mod Widths
 pub mod Tuples
 pub mod Types
 pub mod Admits
-pub mod Columns
 pub mod Elements
 pub mod Rows
-pub mod Fronts
+pub mod Columns

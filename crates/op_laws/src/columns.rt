@@ -1,14 +1,14 @@
-// The columns of a list.
-ghost use Rattle.std.specs.Prelude.{◌≡◌, ℕ, ◌+◌, ◌<◌, ◌≤◌, ℤ, pos, [], ◌∷◌, ◌++◌, length, slice_index_or, OnOk, OnErr};
-ghost use Rattle.op_laws.specs.Columns.{numbers_of};
-ghost use Rattle.op_laws.specs.Fronts.{in_front};
-ghost use Rattle.op_laws.specs.Elements.{singles};
+//! The columns of a list, one for each component.
+
+ghost use Rattle.std.specs.Prelude.{◌≡◌, ◌<◌, pos, length, map, slice_index_or, OnOk};
+ghost use Rattle.std.specs.List.{AllByRecursion};
+ghost use Rattle.op_laws.specs.Rows.{rows, with_row, AreEven};
 
 use crate::column::Column;
+use crate::elem_type::{ElemType, Widths};
 use crate::tup::Tup;
-use std::alloc::AllocError;
+use std::alloc::{AllocError, Global};
 
-/// The columns, one for each component.
 #[derive(Drop, Debug)]
 pub enum Columns {
     One(Column),
@@ -18,28 +18,42 @@ pub enum Columns {
 }
 
 impl Columns {
-    ghost use Rattle.op_laws.specs.Rows.{rows, AreOfWidths, IsEven, HasRoom, FitsColumns};
+    ghost use Rattle.op_laws.specs.Columns.{HasRoom, CanKeepFrom, columns_list, numbers, kinds};
 
-    /// How many elements there are.
+    // How many rows there are.
     #[inline(always)]
     pub fn len(&self) -> usize
-        requires { IsEven self.now }
-        ensures { result ≡ length (rows self.now) }
+        requires { AreEven (numbers self.now) }
+        ensures { result ≡ length (rows (numbers self.now)) }
     {
         match self {
-            Columns::One(a) => a.len(),
-            Columns::Two(a, _) => a.len(),
-            Columns::Three(a, _, _) => a.len(),
-            Columns::Four(a, _, _, _) => a.len(),
+            Columns::One(a)
+            | Columns::Two(a, _)
+            | Columns::Three(a, _, _)
+            | Columns::Four(a, _, _, _) => a.len(),
         }
     }
 
-    /// Makes room for one element.
+    // The row at place `i`.
+    #[inline(always)]
+    pub fn at(&self, i: usize) -> Tup
+        requires even { AreEven (numbers self.now) }
+        requires within { i < length (rows (numbers self.now)) }
+        ensures { result ≡ map (λ xs. slice_index_or xs i (pos 0)) (numbers self.now) }
+    {
+        match self {
+            Columns::One(a) => Tup::one(a.at(i)),
+            Columns::Two(a, b) => Tup::two(a.at(i), b.at(i)),
+            Columns::Three(a, b, c) => Tup::three(a.at(i), b.at(i), c.at(i)),
+            Columns::Four(a, b, c, d) => Tup::four(a.at(i), b.at(i), c.at(i), d.at(i)),
+        }
+    }
+
+    // Gets memory for one row more.
     pub fn reserve(&mut self) -> Result<(), AllocError>
-        ensures rows { rows self.new ≡ rows self.old }
-        ensures kinds { (ty : _) → AreOfWidths ty self.old → AreOfWidths ty self.new }
-        ensures even { IsEven self.old → IsEven self.new }
-        ensures room { OnOk result (HasRoom self.new) }
+        ensures numbers { numbers self.new ≡ numbers self.old }
+        ensures kinds { kinds self.new ≡ kinds self.old }
+        ensures room { OnOk result (AllByRecursion HasRoom (columns_list self.new)) }
     {
         match self {
             Columns::One(a) => a.reserve()?,
@@ -62,52 +76,32 @@ impl Columns {
         Ok(())
     }
 
-    /// Adds an element, for which there is room.
+    // Adds the row `t`.
     #[inline(always)]
     pub fn put(&mut self, t: Tup)
-        requires even { IsEven self.old }
-        requires takes { FitsColumns self.old t }
-        requires room { HasRoom self.old }
-        ensures rows { rows self.new ≡ rows self.old ++ t ∷ [] }
-        ensures even { IsEven self.new }
-        ensures kinds { (ty : _) → AreOfWidths ty self.old → AreOfWidths ty self.new }
+        requires components { length t ≡ length (columns_list self.old) }
+        requires can_keep { CanKeepFrom 0 (columns_list self.old) t }
+        requires room { AllByRecursion HasRoom (columns_list self.old) }
+        ensures numbers { numbers self.new ≡ with_row 0 (numbers self.old) t }
+        ensures kinds { kinds self.new ≡ kinds self.old }
     {
         match self {
-            Columns::One(a) => a.push_reserved(t.only()),
+            Columns::One(a) => a.put(t, 0),
             Columns::Two(a, b) => {
-                let (x, y) = t.pair();
-                a.push_reserved(x);
-                b.push_reserved(y);
-                return;
+                a.put(t, 0);
+                b.put(t, 1);
             }
             Columns::Three(a, b, c) => {
-                let (x, y, z) = t.triple();
-                a.push_reserved(x);
-                b.push_reserved(y);
-                c.push_reserved(z);
-                return;
+                a.put(t, 0);
+                b.put(t, 1);
+                c.put(t, 2);
             }
             Columns::Four(a, b, c, d) => {
-                let (x, y, z, u) = t.quadruple();
-                a.push_reserved(x);
-                b.push_reserved(y);
-                c.push_reserved(z);
-                d.push_reserved(u);
-                return;
+                a.put(t, 0);
+                b.put(t, 1);
+                c.put(t, 2);
+                d.put(t, 3);
             }
         }
     }
-}
-
-// The element at a place of four columns.
-#[inline(always)]
-pub fn four_at(a: &Column, b: &Column, c: &Column, d: &Column, i: usize) -> Tup
-    requires within { i < length (numbers_of a.now) }
-    requires b_as_long { length (numbers_of b.now) ≡ length (numbers_of a.now) }
-    requires c_as_long { length (numbers_of c.now) ≡ length (numbers_of a.now) }
-    requires d_as_long { length (numbers_of d.now) ≡ length (numbers_of a.now) }
-    ensures value { result ≡ slice_index_or (in_front (numbers_of a.now) (in_front (numbers_of b.now) (in_front (numbers_of c.now) (singles (numbers_of d.now))))) i [] }
-    ensures count { length (in_front (numbers_of a.now) (in_front (numbers_of b.now) (in_front (numbers_of c.now) (singles (numbers_of d.now))))) ≡ length (numbers_of a.now) }
-{
-    Tup::four(a.at(i), b.at(i), c.at(i), d.at(i))
 }

@@ -1,9 +1,13 @@
+//! Widths, elements, types of elements and lists of elements: the values that all other crates
+//! compute with.
 #![tactic(auto)]
 
 mod column;
 mod columns;
 mod elem_type;
 mod list;
+#[cfg(test)]
+mod tests;
 mod tup;
 mod width;
 
@@ -12,5 +16,6 @@ pub use list::List;
 pub use tup::Tup;
 pub use width::Width;
 
-/// How many elements a list has at most.
+/// How many elements a list has at most. So many numbers of one width have a sum inside the next
+/// width.
 pub const MAX_ELEMENTS: u32 = 4_294_967_295;

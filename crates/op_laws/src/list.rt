@@ -1,17 +1,23 @@
-// Lists of elements, kept by columns.
-ghost use Rattle.std.specs.Prelude.{◌≡◌, ◌≢◌, ℕ, ◌+◌, ◌<◌, ◌≤◌, ℤ, pos, [], ◌∷◌, ◌++◌, length, slice_index_or, OnOk, OnErr};
+//! Lists of elements, kept by columns.
+
+ghost use Rattle.std.specs.Prelude.{◌≡◌, ◌<◌, ◌≤◌, [], ◌∷◌, ◌++◌, length, slice_index_or, OnOk, OnErr};
+ghost use Rattle.op_laws.specs.declared.width.Width.TheVariants.{W64};
 ghost use Rattle.op_laws.specs.Admits.{Admits};
+ghost use Rattle.op_laws.specs.Elements.{Elements, singles};
+ghost use Rattle.op_laws.specs.Rows.{rows};
+ghost use Rattle.op_laws.specs.Columns.{numbers, IsTable};
 
 use crate::MAX_ELEMENTS;
 use crate::column::Column;
-use crate::columns::{Columns, four_at};
+use crate::columns::Columns;
 use crate::elem_type::{ElemType, Widths};
 use crate::tup::Tup;
 use crate::width::Width;
 use std::alloc::{AllocError, Global};
 use std::marker::Model;
 
-/// A list of elements of one type.
+/// Elements of one type, in order. There is a column for each component: 8 bytes a number for the
+/// width w64, and 16 else.
 #[derive(Drop, Debug)]
 pub struct List {
     ty: ElemType,
@@ -19,24 +25,15 @@ pub struct List {
 }
 
 impl Model for List {
-    ghost use Rattle.op_laws.specs.Elements.{Elements};
-
     ghost Value = { Elements };
 
-    ghost use Rattle.op_laws.specs.Rows.{rows, IsTable};
-
-    ghost view = { λ x. record { ty = x.ty; items = rows x.columns } };
+    ghost view = { λ x. record { ty = x.ty; items = rows (numbers x.columns) } };
 
     ghost invariant = { λ x. IsTable x.ty x.columns };
 }
 
 impl List {
-    ghost use Rattle.op_laws.specs.Elements.{singles};
-    ghost use Rattle.op_laws.specs.declared.width.Width.TheVariants.{W64};
-    ghost use Rattle.std.specs.Prelude.{◌≡◌, ◌<◌, ◌^◌, ◌++◌, [], ◌∷◌, slice_index_or, length, ◌+◌, OnOk, OnErr};
-    ghost use Rattle.op_laws.specs.Admits.{Admits};
-
-    /// No elements. Takes no memory yet.
+    /// The list of this type that has no elements. It takes no memory yet.
     pub fn new(alloc: Global, ty: ElemType) -> List
         ensures ty { result.ty ≡ ty }
         ensures items { result.items ≡ [] }
@@ -59,13 +56,15 @@ impl List {
         List { ty, columns }
     }
 
-    /// The elements of one 64-bit number each.
+    /// The elements of one number each, in order. The vector becomes the list's column: nothing is
+    /// copied.
     pub fn of_w64(numbers: Vec<i64>) -> List
         requires { length numbers.items ≤ MAX_ELEMENTS }
         ensures { result ≡ record { ty = W64 ∷ []; items = singles numbers.items } }
     {
-        for v in &numbers {
-            let _number = *v;
+        // Each number that is read is known to be a 64-bit one. Compiled code has no such loop.
+        for number in &numbers {
+            let _read = *number;
         }
         List {
             ty: ElemType::one(Width::W64),
@@ -73,7 +72,8 @@ impl List {
         }
     }
 
-    /// Adds an element at the end.
+    /// Adds an element at the end. It takes memory only where a column is full. All columns grow
+    /// before one gets its number, so after a refusal the list is what it was.
     pub fn push(&mut self, t: Tup) -> Result<(), AllocError>
         requires admitted { Admits self.old.ty t }
         requires room { length self.old.items < MAX_ELEMENTS }
@@ -86,6 +86,7 @@ impl List {
         Ok(())
     }
 
+    /// How many elements there are.
     #[inline(always)]
     pub fn len(&self) -> u32
         ensures { result ≡ length self.now.items }
@@ -93,6 +94,7 @@ impl List {
         self.columns.len() as u32
     }
 
+    /// The type of the elements.
     #[inline(always)]
     pub fn ty(&self) -> ElemType
         ensures { result ≡ self.now.ty }
@@ -100,29 +102,13 @@ impl List {
         self.ty
     }
 
+    /// The element at place `i`, from 0 on, put together from its columns.
     #[inline(always)]
     pub fn at(&self, i: u32) -> Tup
         requires { i < length self.now.items }
         ensures value { result ≡ slice_index_or self.now.items i [] }
         ensures admitted { Admits self.now.ty result }
     {
-        let _columns = &self.columns;
-        self.get(i)
-    }
-
-    // The element at a place.
-    #[inline(always)]
-    fn get(&self, i: u32) -> Tup
-        requires { i < length self.now.items }
-        ensures { result ≡ slice_index_or self.now.items i [] }
-    {
-        match &self.columns {
-            Columns::One(a) => Tup::one(a.at(i as usize)),
-            Columns::Two(a, b) => Tup::two(a.at(i as usize), b.at(i as usize)),
-            Columns::Three(a, b, c) => {
-                Tup::three(a.at(i as usize), b.at(i as usize), c.at(i as usize))
-            }
-            Columns::Four(a, b, c, d) => four_at(a, b, c, d, i as usize),
-        }
+        self.columns.at(i as usize)
     }
 }

@@ -1,26 +1,45 @@
--- Files in memory: a name and its bytes each. Of two with one name the first counts.
-use Rattle.std.specs.Prelude.{◌≡◌, ℕ, ◌<◌, ◌≤◌, List, Option, Some, length, drop, option_map, option_and_then, position, slice_get, string_bytes, bytes_eq, String, Vec}
+-- Files in memory, and which of them is read.
+use Rattle.std.specs.Prelude.{ℕ, List, Option, map, option_map, find, position, drop, string_bytes, bytes_eq, String, Vec, []}
+use Rattle.std.specs.Option.{option_map_or}
 use Rattle.std.specs.declared.alloc.Global.{Global}
 
-abbrev pub Files : Type 0
-Files = Vec (String Global × Vec ℕ Global) Global
+-- a file: its name and its bytes
+pub record File : Type 0 where
+  pub name : List ℕ
+  pub bytes : List ℕ
 
--- the place of the file of this name
-abbrev pub place_of : Files → List ℕ → Option ℕ
-place_of files name = position (λ f. bytes_eq (string_bytes f.0) name) files.items
+-- files in their order, and the started one with the bytes that are left of it
+pub record Held : Type 0 where
+  pub files : List File
+  pub reading : Option File
 
-abbrev pub bytes_at : Files → ℕ → Option (List ℕ)
-bytes_at files i = option_map (λ f. f.1.items) (slice_get files.items i)
+-- the files that a list of names and bytes stands for
+abbrev pub file_list : List (String Global × Vec ℕ Global) → List File
+file_list pairs = map (λ p. record { name = string_bytes p.0; bytes = p.1.items }) pairs
 
-abbrev pub name_at : Files → ℕ → Option (List ℕ)
-name_at files i = option_map (λ f. string_bytes f.0) (slice_get files.items i)
+-- the first file of this name, and its place
+abbrev pub file_of : List File → List ℕ → Option File
+file_of files name = find (λ f. bytes_eq f.name name) files
 
-abbrev pub content_of : Files → List ℕ → Option (List ℕ)
-content_of files name = option_and_then (bytes_at files) (place_of files name)
+abbrev pub place_of : List File → List ℕ → Option ℕ
+place_of files name = position (λ f. bytes_eq f.name name) files
 
--- what is left of the file at this place from an offset on
-abbrev pub left_at : Files → ℕ → Option ℕ → Option (List ℕ)
-left_at files at started = option_and_then (λ i. option_map (drop at) (bytes_at files i)) started
+-- the bytes under this name
+abbrev pub content_of : List File → List ℕ → Option (List ℕ)
+content_of files name = option_map (λ f. f.bytes) (file_of files name)
 
-abbrev pub IsOpenAt : Files → ℕ → ℕ → Type 0
-IsOpenAt files at i = (i < length files.items) × ((f : String Global × Vec ℕ Global) → slice_get files.items i ≡ Some f → at ≤ length f.1.items)
+-- the same files with this one started, or none
+abbrev pub with_reading : Held → Option File → Held
+with_reading held file = record held { reading = file }
+
+-- what is left of the started file
+abbrev pub rest_of : Held → List ℕ
+rest_of held = option_map_or (λ f. f.bytes) held.reading []
+
+-- a file without its first n bytes
+abbrev pub file_from : ℕ → File → File
+file_from n f = record f { bytes = drop n f.bytes }
+
+-- the same files with n bytes more read of the started one
+abbrev pub after_piece : Held → ℕ → Held
+after_piece held n = record held { reading = option_map (file_from n) held.reading }

@@ -1,13 +1,17 @@
 -- What the devices of the outside tell: counts of faults, pieces that are read, bytes that go out.
 use Rattle.std.specs.Prelude.{◌≡◌, ◌≢◌, ℕ, ◌+◌, ◌≤◌, min, List, ◌++◌, length, Option, Some, None, IsSome, ⊤}
 
--- where a count of faults stays
+-- the greatest that a count of faults becomes; there it stays
 abbrev pub greatest_count : ℕ
 greatest_count = 18446744073709551615
 
--- a count of faults rose in a call: it grew, or it stands where it can grow no more
+-- a count one higher, or where it stays
+abbrev pub raised : ℕ → ℕ
+raised count = min (count + 1) greatest_count
+
+-- a count of faults rose in a call: it grew, or it stands where it stays
 abbrev pub Rose : ℕ → ℕ → Type 0
-Rose before after = min (before + 1) greatest_count ≤ after
+Rose before after = raised before ≤ after
 
 -- no name's count fell
 abbrev pub NoneFell : (List ℕ → ℕ) → (List ℕ → ℕ) → Type 0

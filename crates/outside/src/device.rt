@@ -70,7 +70,7 @@ pub trait Sink {
 
     /// Writes all the bytes, or fails with a front of them written.
     fn put(&mut self, bytes: &[u8]) -> Result<(), Failed>
-        requires some { 0 < length bytes.now }
+        requires { 0 < length bytes.now }
         ensures ok { OnOk result (Appends (written self.old) (written self.new) bytes.now) }
         ensures err { OnErr result (AppendsFront (written self.old) (written self.new) bytes.now) }
 

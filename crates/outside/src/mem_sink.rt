@@ -1,10 +1,16 @@
 //! A sink in memory, with room for so many bytes, that fails as it is told.
-ghost use Rattle.std.specs.Prelude.{◌≡◌, ◌<◌, ◌≤◌, ◌+◌, ◌++◌, ℕ, List, [], Some, IfOk, length, take, vec_len, vec_capacity};
+ghost use Rattle.std.specs.Prelude.{◌≡◌, ◌==◌, ◌<◌, ◌≤◌, ◌+◌, ◌++◌, [], Some, IfOk, OnErr, is_ok, not, find, option_map, length, vec_len, vec_capacity};
+ghost use Rattle.outside.specs.Outside.{greatest_count, AppendsFront};
+ghost use Rattle.outside.specs.MemSink.{fails_at, after_put};
 
 use crate::device::{Failed, Sink};
 use std::alloc::{AllocError, Global};
+use std::marker::Model;
 
-/// A sink in memory with room for so many bytes. It fails as its plan says, and where its room is full.
+/// A sink in memory with room for so many bytes.
+///
+/// A put that its plan names takes as many bytes as planned, or as many as it has or as fit where
+/// these are fewer, and fails. A put past the room takes what fits and fails. No other put fails.
 #[derive(Drop)]
 pub struct MemSink {
     bytes: Vec<u8>,
@@ -12,16 +18,29 @@ pub struct MemSink {
     fails: Vec<(u32, u32)>,
     calls: u64,
     faults: u64,
-    ghost fits: { vec_len bytes ≤ room },
-    ghost reserved: { room ≤ vec_capacity bytes },
-    ghost capped: { faults ≤ 18446744073709551615 },
+}
+
+impl Model for MemSink {
+    ghost use Rattle.outside.specs.MemSink.{MemSinkState};
+
+    ghost Value = { MemSinkState };
+
+    ghost use Rattle.outside.specs.MemSinkLayout.{state_of, IsKept};
+
+    ghost view = { state_of };
+
+    ghost invariant = { IsKept };
 }
 
 impl MemSink {
-    /// An empty sink whose room is reserved. An entry of `fails` is the number of a put and of bytes.
+    /// An empty sink whose room is reserved.
+    ///
+    /// An entry of `fails` is the number of a put, counted from 0, and the number of bytes that it
+    /// takes before it fails. Where two entries have one number, the first counts. A put whose number
+    /// is past 4294967295 can't be named.
     pub fn new(alloc: Global, room: u32, fails: Vec<(u32, u32)>) -> Result<MemSink, AllocError>
-        ensures empty { IfOk result (λ s. s.bytes.items ≡ []) }
-        ensures room { IfOk result (λ s. s.room ≡ room) }
+        ensures { IfOk result
+            (λ s. s ≡ record { written = []; room = room; fails = fails.items; calls = 0; faults = 0 }) }
     {
         Ok(MemSink {
             bytes: Vec::with_capacity(alloc, room as usize)?,
@@ -34,14 +53,46 @@ impl MemSink {
 
     /// What was written.
     pub fn bytes(&self) -> &[u8]
-        ensures { result.now ≡ self.now.bytes.items }
+        ensures { result.now ≡ self.now.written }
     {
         &self.bytes
     }
 }
 
-// How many bytes the call of this number is to take before it fails, if it is to fail.
-fn planned(fails: &[(u32, u32)], call: u64) -> Option<u32> {
+impl Sink for MemSink {
+    ghost written = { λ s. Some s.written };
+
+    ghost faults = { λ s. s.faults };
+
+    fn put(&mut self, bytes: &[u8]) -> Result<(), Failed>
+        requires { 0 < length bytes.now }
+        ensures fails { is_ok result ≡ not (fails_at self.old (length bytes.now)) }
+        ensures after { self.new ≡ after_put self.old bytes.now }
+
+        ensures err { OnErr result
+            (AppendsFront (Some self.old.written) (Some self.new.written) bytes.now) }
+        ensures never_falls { self.old.faults ≤ self.new.faults }
+        ensures capped { self.new.faults ≤ greatest_count }
+    {
+        let plan = planned(&self.fails, self.calls);
+        self.calls = self.calls.saturating_add(1);
+        let free = self.room as usize - self.bytes.len();
+        let count = plan
+            .map_or(bytes.len(), |n| n as usize)
+            .min(bytes.len().min(free));
+        append(&mut self.bytes, &bytes[..count]);
+        if plan.is_some() || free < bytes.len() {
+            self.faults = self.faults.saturating_add(1);
+            return Err(Failed);
+        }
+        Ok(())
+    }
+}
+
+// How many bytes the put of this number is to take before it fails, if it is to fail.
+fn planned(fails: &[(u32, u32)], call: u64) -> Option<u32>
+    ensures { result ≡ option_map (λ f. f.1) (find (λ f. f.0 == call) fails.now) }
+{
     fails.iter().find(|f| u64::from(f.0) == call).map(|f| f.1)
 }
 
@@ -54,27 +105,5 @@ fn append(to: &mut Vec<u8>, bytes: &[u8])
     match to.extend_from_slice(bytes) {
         Ok(()) => {}
         Err(_) => unreachable!(),
-    }
-}
-
-impl Sink for MemSink {
-    ghost written = { λ s. Some s.bytes.items };
-
-    ghost faults = { λ s. s.faults };
-
-    fn put(&mut self, bytes: &[u8]) -> Result<(), Failed> {
-        let plan = planned(&self.fails, self.calls);
-        self.calls = self.calls.saturating_add(1);
-        let free = self.room as usize - self.bytes.len();
-        let count = match plan {
-            Some(n) => (n as usize).min(bytes.len()).min(free),
-            None => bytes.len().min(free),
-        };
-        append(&mut self.bytes, &bytes[..count]);
-        if plan.is_some() || count < bytes.len() {
-            self.faults = self.faults.saturating_add(1);
-            return Err(Failed);
-        }
-        Ok(())
     }
 }

@@ -1,0 +1,64 @@
+//! What no clause says: that a list takes its elements where there is memory. In each row the
+//! columns grow several times.
+
+use crate::{ElemType, List, MAX_ELEMENTS, Tup, Width};
+use std::test::Fail;
+
+const LEAST_64: i128 = -9223372036854775808;
+
+const LEAST_128: i128 = -170141183460469231731687303715884105728;
+
+#[test]
+fn a_list_gives_the_elements_that_were_pushed(rt: HostRuntime) -> Result<(), Fail> {
+    let one_64 = ElemType::one(Width::W64);
+    let one_128 = ElemType::one(Width::W128);
+    let four_64 = one_64.push(Width::W64).push(Width::W64).push(Width::W64);
+    let four_128 = one_128
+        .push(Width::W128)
+        .push(Width::W128)
+        .push(Width::W128);
+    let mixed = one_64.push(Width::W128).push(Width::W128).push(Width::W64);
+    let rows = [
+        (one_64, [Tup::one(LEAST_64), Tup::one(7), Tup::one(-1)]),
+        (one_128, [Tup::one(LEAST_128), Tup::one(7), Tup::one(-1)]),
+        (
+            four_64,
+            [
+                Tup::four(LEAST_64, 2, 3, 4),
+                Tup::four(5, 6, 7, 8),
+                Tup::four(9, 10, 11, 12),
+            ],
+        ),
+        (
+            four_128,
+            [
+                Tup::four(1, LEAST_128, 3, 4),
+                Tup::four(5, 6, 7, 8),
+                Tup::four(9, 10, 11, 12),
+            ],
+        ),
+        (
+            mixed,
+            [
+                Tup::four(LEAST_64, LEAST_128, 3, 4),
+                Tup::four(5, 6, 7, 8),
+                Tup::four(9, 10, 11, 12),
+            ],
+        ),
+    ];
+    for (ty, elements) in &rows {
+        let elements = &elements[..];
+        let mut list = List::new(rt.alloc(), *ty);
+        for i in 0..300 {
+            let t = elements[i % 3];
+            assert!(rt; list.ty().admits(t), "{ty:?} admits {t:?}");
+            assert!(rt; list.len() < MAX_ELEMENTS);
+            list.push(t)?;
+        }
+        assert_eq!(rt; list.len(), 300);
+        for i in 0..300 {
+            assert_eq!(rt; list.at(i), elements[i as usize % 3], "{ty:?} at {i}");
+        }
+    }
+    Ok(())
+}
