@@ -12,7 +12,10 @@ use std::alloc::Global;
 /// The most bytes that a script may have.
 pub const MAX_SCRIPT_BYTES: usize = 65_536;
 
-/// The script that these bytes are. They are read once.
+/// The script that these bytes are.
+///
+/// Time and memory are linear in the bytes: each line's words are kept as slices until the form is
+/// known, and only the two names are copied. Nothing is kept on an error.
 pub fn read_script(alloc: Global, bytes: &[u8]) -> Result<Script, ScriptFault>
     ensures built { IfOk result (λ s. IsSumScript bytes.now s) }
     ensures only { IfOk result (λ s. (names : Names) → IsSumScript bytes.now names → names ≡ s) }
