@@ -1,0 +1,5 @@
+pub mod FrontLemmas
+pub mod SumLemmas
+pub mod OutletLemmas
+pub mod AnswerLemmas
+pub mod EndLemmas

@@ -1,0 +1,41 @@
+-- How a run may end.
+use Rattle.std.specs.Prelude.{◌≡◌, ◌≢◌, ℕ, ◌⊎◌, List, Option, IfSome, IsSomeAnd}
+use Rattle.outside.specs.Outside.{Rose, Appends, AppendsFront}
+use Rattle.data_text.specs.declared.value.Named.{Named}
+use Rattle.data_text.specs.Printed.{text_of}
+use Rattle.sketo_run.specs.CommandLine.{Files}
+use Rattle.sketo_run.specs.Answer.{IsAnswer, IsBuilt}
+
+-- P of the contents of both files, where both are told
+abbrev pub WhereTold : (List ℕ → Option (List ℕ)) → Files → (List ℕ → List ℕ → Type 0) → Type 0
+WhereTold content files P = IfSome (content files.script) (λ script. IfSome (content files.input) (λ input. P script input))
+
+-- P of the contents of both files, which are both told
+abbrev pub AreTold : (List ℕ → Option (List ℕ)) → Files → (List ℕ → List ℕ → Type 0) → Type 0
+AreTold content files P = IsSomeAnd (content files.script) (λ script. IsSomeAnd (content files.input) (λ input. P script input))
+
+-- answered, a read failed, a write failed, memory was refused, or a form isn't built
+abbrev pub IsStatus : ℕ → Type 0
+IsStatus n = (n ≡ 0) ⊎ ((n ≡ 5) ⊎ ((n ≡ 6) ⊎ ((n ≡ 7) ⊎ (n ≡ 8))))
+
+-- the text of the answer went out
+abbrev pub IsPrinted : Option (List ℕ) → Option (List ℕ) → List ℕ → List ℕ → Type 0
+IsPrinted before after script input = (answer : Named) × IsAnswer script input answer × Appends before after (text_of answer)
+
+-- a front of the text of the answer went out
+abbrev pub IsPrintedInPart : Option (List ℕ) → Option (List ℕ) → List ℕ → List ℕ → Type 0
+IsPrintedInPart before after script input = (answer : Named) × IsAnswer script input answer × AppendsFront before after (text_of answer)
+
+-- A file of the run couldn't be read: its count of faults rose. It is the data only after a script of the
+-- form that is built.
+pub record IsUnread (content : List ℕ → Option (List ℕ)) (files : Files) (faults faults' : List ℕ → ℕ) (file : List ℕ) : Type 0 where
+  pub named : (file ≡ files.script) ⊎ (file ≡ files.input)
+  pub rose : Rose (faults file) (faults' file)
+  pub after_script : files.script ≢ files.input → file ≡ files.input → IfSome (content files.script) IsBuilt
+
+-- Both files are told and have an answer, and no count of faults rose: of the files and of output.
+pub record IsFaultless (content : List ℕ → Option (List ℕ)) (files : Files) (faults faults' : List ℕ → ℕ) (out out' : ℕ) : Type 0 where
+  pub has_answer : AreTold content files (λ script input. (answer : Named) × IsAnswer script input answer)
+  pub script_read : Rose (faults files.script) (faults' files.script) → ⊥
+  pub input_read : Rose (faults files.input) (faults' files.input) → ⊥
+  pub written : Rose out out' → ⊥

@@ -1,0 +1,35 @@
+-- What the faults of the layers below come to, and the line and status of each.
+use Rattle.std.specs.Prelude.{ℕ, List}
+use Rattle.data_text.specs.declared.data_fault.DataFault.{DataFault}
+use Rattle.data_text.specs.declared.data_fault.DataFault.TheVariants as data_fault
+use Rattle.script_lang.specs.declared.fault.ScriptFault.{ScriptFault}
+use Rattle.script_lang.specs.declared.fault.ScriptFault.TheVariants as script_fault
+use Rattle.sketo_run.specs.declared.stop.Stop.{Stop}
+use Rattle.sketo_run.specs.declared.stop.Stop.TheVariants as stop
+use Rattle.sketo_run.specs.declared.status.Status.{Status}
+use Rattle.sketo_run.specs.declared.status.Status.TheVariants as status
+use Rattle.sketo_run.specs.CommandLine.{Files}
+use Rattle.sketo_run.specs.Report.{read_failed, no_memory, not_built}
+
+abbrev pub stop_of_script : ScriptFault → Stop
+stop_of_script script_fault.NotBuilt = stop.NotBuilt
+stop_of_script script_fault.Memory = stop.NoMemory
+
+abbrev pub stop_of_data : DataFault → Stop
+stop_of_data data_fault.NotBuilt = stop.NotBuilt
+stop_of_data data_fault.Read = stop.DataUnread
+stop_of_data data_fault.Memory = stop.NoMemory
+
+-- the status that tells of it
+abbrev pub status_of : Stop → Status
+status_of stop.ScriptUnread = status.ReadFailed
+status_of stop.DataUnread = status.ReadFailed
+status_of stop.NoMemory = status.NoMemory
+status_of stop.NotBuilt = status.NotBuilt
+
+-- the line that tells of it
+abbrev pub line_of : Stop → Files → List ℕ
+line_of stop.ScriptUnread files = read_failed files.script
+line_of stop.DataUnread files = read_failed files.input
+line_of stop.NoMemory files = no_memory
+line_of stop.NotBuilt files = not_built

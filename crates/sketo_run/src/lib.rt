@@ -1,0 +1,14 @@
+//! All that the program does: from words and files to output and a status.
+#![tactic(auto)]
+
+mod answer;
+mod report;
+mod script_text;
+mod status;
+mod stop;
+mod sum;
+mod top;
+mod words;
+
+pub use status::Status;
+pub use top::sketo;

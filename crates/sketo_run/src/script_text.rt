@@ -1,0 +1,40 @@
+//! The bytes of a script.
+ghost use Rattle.std.specs.Prelude.{◌≡◌, IfSome, IfOk, IsErrOf, take};
+ghost use Rattle.outside.specs.Outside.{Rose, NoneFell};
+
+use crate::stop::Stop;
+use data_text::Shelf;
+use std::alloc::Global;
+
+// The most bytes that are read: as many as a script may have, and one more.
+const MOST: usize = 65_537;
+
+/// The front of a file, of at most 65,537 bytes.
+pub fn script_text<F: Shelf>(alloc: Global, shelf: &mut F, name: &str) -> Result<Vec<u8>, Stop>
+    ensures told { IfSome (F.content shelf.old name.now) (λ all. IfOk result (λ v. v.items ≡ take 65537 all)) }
+    ensures content { F.content shelf.new ≡ F.content shelf.old }
+    ensures never_falls { NoneFell (F.faults shelf.old) (F.faults shelf.new) }
+    ensures unread { IsErrOf result Stop.ScriptUnread → Rose (F.faults shelf.old name.now) (F.faults shelf.new name.now) }
+    ensures not_data { IsErrOf result Stop.DataUnread → ⊥ }
+    ensures not_form { IsErrOf result Stop.NotBuilt → ⊥ }
+{
+    if shelf.start(name).is_err() {
+        return Err(Stop::ScriptUnread);
+    }
+    let mut bytes = Vec::new(alloc);
+    let mut buf = [0u8; 4096];
+    for _ in 0..65_538u32 {
+        let room = (MOST - bytes.len()).min(4096);
+        if room == 0 {
+            return Ok(bytes);
+        }
+        let Ok(n) = shelf.read(&mut buf[..room]) else {
+            return Err(Stop::ScriptUnread);
+        };
+        if n == 0 {
+            return Ok(bytes);
+        }
+        bytes.extend_from_slice(&buf[..n])?;
+    }
+    unreachable!()
+}

@@ -1,0 +1,75 @@
+//! Why there is no answer.
+ghost use Rattle.std.specs.Prelude.{◌≡◌};
+
+use crate::status::Status;
+use data_text::DataFault;
+use script_lang::ScriptFault;
+use std::alloc::AllocError;
+
+/// Why there is no answer.
+#[derive(Clone, Copy, Debug, PartialEq, Eq)]
+pub enum Stop {
+    /// The script couldn't be read.
+    ScriptUnread,
+    /// The data couldn't be read.
+    DataUnread,
+    /// Memory was refused.
+    NoMemory,
+    /// A form that isn't built yet.
+    NotBuilt,
+}
+
+impl Stop {
+    ghost use Rattle.sketo_run.specs.Stops.{status_of};
+
+    /// The status that tells of it.
+    pub fn status(self) -> Status
+        ensures { result ≡ status_of self }
+    {
+        match self {
+            Stop::ScriptUnread | Stop::DataUnread => Status::ReadFailed,
+            Stop::NoMemory => Status::NoMemory,
+            Stop::NotBuilt => Status::NotBuilt,
+        }
+    }
+}
+
+impl From<AllocError> for Stop {
+    ghost use Rattle.std.specs.Prelude.{◌≡◌};
+    ghost use Rattle.sketo_run.specs.declared.stop.Stop.TheVariants.{NoMemory};
+
+    ghost from_gives = { λ _ e. e ≡ NoMemory };
+
+    fn from(_: AllocError) -> Stop {
+        Stop::NoMemory
+    }
+}
+
+impl From<ScriptFault> for Stop {
+    ghost use Rattle.std.specs.Prelude.{◌≡◌};
+    ghost use Rattle.sketo_run.specs.Stops.{stop_of_script};
+
+    ghost from_gives = { λ fault stop. stop ≡ stop_of_script fault };
+
+    fn from(fault: ScriptFault) -> Stop {
+        match fault {
+            ScriptFault::NotBuilt => Stop::NotBuilt,
+            ScriptFault::Memory => Stop::NoMemory,
+        }
+    }
+}
+
+impl From<DataFault> for Stop {
+    ghost use Rattle.std.specs.Prelude.{◌≡◌};
+    ghost use Rattle.sketo_run.specs.Stops.{stop_of_data};
+
+    ghost from_gives = { λ fault stop. stop ≡ stop_of_data fault };
+
+    fn from(fault: DataFault) -> Stop {
+        match fault {
+            DataFault::NotBuilt => Stop::NotBuilt,
+            DataFault::Read => Stop::DataUnread,
+            DataFault::Memory => Stop::NoMemory,
+        }
+    }
+}
