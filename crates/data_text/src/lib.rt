@@ -15,7 +15,10 @@ mod value;
 
 pub use data_fault::DataFault;
 pub use name::{Name, is_name};
-pub use outside::{Failed, MemSink, Shelf, Sink, SureShelf};
+pub use outside::{Failed, MemShelf, MemSink, Shelf, Sink, SureShelf};
 pub use reading::read_data;
 pub use sections::Sections;
 pub use value::{Named, Value};
+
+#[cfg(test)]
+mod tests;
