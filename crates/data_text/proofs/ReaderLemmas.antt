@@ -52,7 +52,8 @@ word_faults p w text bytes at gap end n s t e l =
     let j : w ++ (text ++ bytes) ≡ (w ++ text) ++ bytes = simp append_assoc in
     let len : length (w ++ text) ≡ length w + length text = length-append w text in
     let h = goes_on (w ++ text) (at - length w) gap bytes (solid-append w text s t) (omega arith) in
-    let long : 40 < length ((w ++ text) ++ h.0) = simp length-append (omega arith) in
+    let more : length ((w ++ text) ++ h.0) ≡ length (w ++ text) + length h.0 = length-append (w ++ text) h.0 in
+    let long : 40 < length ((w ++ text) ++ h.0) = omega arith in
     ap (λ (bs : List ℕ). resume p end (items_from (at - length w) gap bs)) j
     ∙ ap (λ (is : List Item). resume p end is) h.2
     ∙ first_fault p end _ h.1 (fault.LongWord (at - length w)) (next_long_word end (at - length w) _ h.1 long)

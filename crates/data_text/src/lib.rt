@@ -23,3 +23,6 @@ pub use print::write_value;
 pub use reading::read_data;
 pub use sections::Sections;
 pub use value::{Named, Value};
+
+#[cfg(test)]
+mod tests;

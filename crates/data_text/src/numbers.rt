@@ -1,10 +1,11 @@
 //! Words as counts and numbers.
-ghost use Rattle.std.specs.Prelude.{◌≡◌, min, option_map, option_and_then, true, pos, neg_ℤ, if◌then◌else◌};
+ghost use Rattle.std.specs.Prelude.{◌≡◌, ◌≤◌, min, option_map, option_and_then, true, pos, neg_ℤ, if◌then◌else◌, length};
 ghost use Rattle.std.specs.Str.Parse.{digits_value};
 ghost use Rattle.std.specs.List.{list_all};
 ghost use Rattle.std.specs.Char.{is_ascii_digit};
 ghost use Rattle.data_text.specs.Numbers.{is_digits, count_of, number_of, kept_if, is_w64};
 
+#[inline(always)]
 fn all_digits(text: &[u8]) -> bool
     ensures { result ≡ list_all is_ascii_digit text.now }
 {
@@ -12,14 +13,29 @@ fn all_digits(text: &[u8]) -> bool
 }
 
 // Whether a word is digits.
+#[inline(always)]
 fn is_digits(text: &[u8]) -> bool
     ensures { result ≡ is_digits text.now }
 {
     !text.is_empty() && all_digits(text)
 }
 
+// The number that so few digits write that it is in 64 bits.
+#[inline(always)]
+fn short_digits_of(text: &[u8]) -> u64
+    requires digits { is_digits text.now ≡ true }
+    requires short { length text.now ≤ 19 }
+    ensures { result ≡ digits_value 10 text.now }
+{
+    let mut n: u64 = 0;
+    for b in text {
+        n = n * 10 + u64::from(*b - b'0');
+    }
+    n
+}
+
 // The number that digits write, or the greatest of 64 bits where it is greater.
-fn digits_of(text: &[u8]) -> u64
+fn long_digits_of(text: &[u8]) -> u64
     requires { is_digits text.now ≡ true }
     ensures { result ≡ min (digits_value 10 text.now) 18446744073709551615 }
 {
@@ -32,7 +48,22 @@ fn digits_of(text: &[u8]) -> u64
     n
 }
 
+// The number that digits write, or the greatest of 64 bits where it is greater.
+#[inline(always)]
+#[tactic(auto, using(crate::proofs::NumberLemmas::short_value))]
+fn digits_of(text: &[u8]) -> u64
+    requires { is_digits text.now ≡ true }
+    ensures { result ≡ min (digits_value 10 text.now) 18446744073709551615 }
+{
+    if text.len() <= 19 {
+        short_digits_of(text)
+    } else {
+        long_digits_of(text)
+    }
+}
+
 /// The number that a word of digits writes, or the greatest of 64 bits where it is greater.
+#[inline(always)]
 pub fn count(text: &[u8]) -> Option<u64>
     ensures { result ≡ option_map (λ n. min n 18446744073709551615) (count_of text.now) }
 {
@@ -44,6 +75,7 @@ pub fn count(text: &[u8]) -> Option<u64>
 }
 
 // A number or its opposite, where it is in the range.
+#[inline(always)]
 fn signed(negative: bool, n: u64) -> Option<i64>
     ensures { result ≡ kept_if is_w64 (if negative then neg_ℤ (pos n) else pos n) }
 {
@@ -55,6 +87,7 @@ fn signed(negative: bool, n: u64) -> Option<i64>
 }
 
 // The number that digits write, or its opposite, where it is in the range.
+#[inline(always)]
 #[tactic(auto, using(crate::proofs::NumberLemmas::capped))]
 fn signed_count(negative: bool, digits: &[u8]) -> Option<i64>
     ensures { result ≡ option_and_then (λ n. kept_if is_w64 (if negative then neg_ℤ (pos n) else pos n)) (count_of digits.now) }
@@ -66,6 +99,7 @@ fn signed_count(negative: bool, digits: &[u8]) -> Option<i64>
 }
 
 /// The number of 64 bits that a word writes.
+#[inline(always)]
 #[tactic(auto, unfolding(crate::specs::Numbers::number_of))]
 pub fn number(text: &[u8]) -> Option<i64>
     ensures { result ≡ number_of text.now }

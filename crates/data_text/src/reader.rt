@@ -10,6 +10,9 @@ use crate::parser::Parser;
 use crate::runs::{blank_run, is_blank, solid_run};
 use crate::sections::Sections;
 
+// A word has so many bytes at most.
+const LONGEST_WORD: usize = 40;
+
 /// A reader of data that comes in pieces. It keeps the word that a piece's end has cut.
 #[derive(Drop)]
 pub struct Reader {
@@ -74,7 +77,7 @@ impl Reader {
             → GoesOn result (continued self.old end (text.now ++ b ∷ bytes)) (λ _. continued self.new end (b ∷ bytes)) }
         ensures at { OnOk result (self.new.at ≡ self.old.at + length text.now) }
     {
-        if text.len() > 40 {
+        if text.len() > LONGEST_WORD {
             return Err(Stop::Form(FormFault::LongWord(self.at)));
         }
         self.parser.take(self.at, text)?;
@@ -89,7 +92,7 @@ impl Reader {
         ensures step { (end : ℕ) (bytes : List ℕ) → GoesOn result (continued self.old end (text.now ++ bytes)) (λ _. continued self.new end bytes) }
         ensures at { OnOk result (self.new.at ≡ self.old.at + length text.now) }
     {
-        if text.len() > 40 - self.word.len() {
+        if text.len() > LONGEST_WORD - self.word.len() {
             return Err(Stop::Form(FormFault::LongWord(self.at - self.word.len() as u64)));
         }
         self.word.extend_from_slice(text)?;

@@ -77,6 +77,7 @@ impl Sections {
         has(&self.values, name)
     }
 
+    /// How many sections there are.
     pub fn len(&self) -> u32
         ensures value { result ≡ length self.now }
         ensures few { length self.now ≤ 64 }
@@ -85,6 +86,7 @@ impl Sections {
         self.values.len() as u32
     }
 
+    /// The section at a place, counted from 0.
     pub fn at(&self, i: u32) -> &Named
         requires { i < length self.now }
         ensures value { result.now ≡ slice_index_or self.now i result.now }
@@ -93,7 +95,7 @@ impl Sections {
         &self.values[i as usize]
     }
 
-    /// The place of the section of this name.
+    /// The place of the section of this name, counted from 0.
     pub fn find(&self, name: &[u8]) -> Option<u32>
         ensures place { result ≡ place_of name.now self.now }
         ensures within { IfSome result (λ i. i < length self.now) }

@@ -6,9 +6,9 @@ use Rattle.data_text.specs.Continued.{continued}
 use Rattle.data_text.proofs.ReaderLemmas.{no_word, whole_word, word_faults}
 use Rattle.data_text.proofs.reader.Reader.take_word.Goals as goal
 
-pub returns-then-text-gt40-clause-step : goal.returns-then-text-gt40-clause-step
+pub returns-then-text-gt-LONGEST_WORD-clause-step : goal.returns-then-text-gt-LONGEST_WORD-clause-step
 unfolding continued
-returns-then-text-gt40-clause-step c = λ end b bytes blank.
+returns-then-text-gt-LONGEST_WORD-clause-step c = λ end b bytes blank.
     let r = c.args.self.now in
     let k : r.at - 0 ≡ r.at = omega arith in
     rw c.requires.empty (word_faults r.parser [] c.args.text.now (b ∷ bytes) r.at r.gap end 0 refl c.requires.solid refl (omega arith) ∙ ap (λ (n : ℕ). Err (fault.LongWord n)) k)
