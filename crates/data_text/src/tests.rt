@@ -1,7 +1,7 @@
 //! What no clause says: that calls answer with ample memory, and that the definition of the data format
 //! says what was meant. The answers in the tables were worked out by hand.
 use super::*;
-use op_laws::{ElemType, List, MAX_ELEMENTS, Tup, Width};
+use op_laws::List;
 use std::alloc::{AllocError, Global};
 use std::test::Fail;
 
@@ -189,17 +189,12 @@ fn a_name_keeps_its_bytes(rt: HostRuntime) -> Result<(), Fail> {
     Ok(())
 }
 
-// A list of so many ones.
-fn ones(alloc: Global, count: u32) -> Result<Named, AllocError> {
-    let mut list = List::new(alloc, ElemType::one(Width::W64));
-    for i in 0..count {
-        if list.len() < i + 1 && list.len() < MAX_ELEMENTS {
-            list.push(Tup::one(1))?;
-        }
-    }
+// A list of 10,000 ones.
+fn ones(alloc: Global) -> Result<Named, AllocError> {
+    let numbers = vec![in alloc; 1i64; 10_000]?;
     Ok(Named {
         name: Name::of(alloc, b"x")?,
-        value: Value::List(list),
+        value: Value::List(List::of_w64(numbers)),
     })
 }
 
@@ -219,7 +214,7 @@ fn printed(
 #[test]
 fn a_value_goes_out_in_pieces_of_4096_bytes(rt: HostRuntime) -> Result<(), Fail> {
     let alloc = rt.alloc();
-    let list = ones(alloc, 10_000)?;
+    let list = ones(alloc)?;
     let (is_whole, text) = printed(alloc, &list, Vec::new(alloc))?;
     assert!(rt; is_whole);
     assert_eq!(rt; text.len(), 20_013);
