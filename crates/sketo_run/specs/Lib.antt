@@ -1,4 +1,10 @@
 pub mod CommandLine
+pub mod Refusals
+pub mod Commands
+pub mod Words
+pub mod Seen
+pub mod OperandTexts
+pub mod Given
 pub mod Answer
 pub mod Report
 pub mod Ends

@@ -2,6 +2,13 @@
 #![tactic(auto)]
 
 mod answer;
+mod command;
+mod command_line;
+mod given;
+mod item;
+mod number;
+mod operands;
+mod refusal;
 mod report;
 mod script_text;
 mod status;
