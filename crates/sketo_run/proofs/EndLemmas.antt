@@ -1,10 +1,10 @@
 -- How a run ends.
-use Rattle.std.proofs.Common.{◌≡◌, ℕ, ◌⊎◌, inr, List, Option, Some, None, IfSome, subst, sym, refl, ◌∙◌}
+use Rattle.std.proofs.Common.{◌≡◌, ℕ, ◌⊎◌, inr, List, Option, Some, None, IfSome, sym, refl, ◌∙◌}
 use Rattle.std.specs.Prelude.{IsSomeAnd}
 use Rattle.outside.specs.Outside.{Rose, Appends, AppendsFront}
 use Rattle.data_text.specs.declared.value.Named.{Named}
 use Rattle.data_text.specs.Printed.{text_of}
-use Rattle.sketo_run.specs.CommandLine.{Files}
+use Rattle.sketo_run.specs.Commands.{Files}
 use Rattle.sketo_run.specs.Answer.{IsAnswer, HasNoAnswer}
 use Rattle.sketo_run.specs.declared.status.Status.{Status}
 use Rattle.sketo_run.specs.declared.status.Status.TheVariants as status
@@ -20,21 +20,20 @@ where_told None p P Q h f = tt
 where_told (Some s) None P Q h f = tt
 where_told (Some s) (Some d) P Q h f = f s d h
 
-pub printed : (content : List ℕ → Option (List ℕ)) (files : Files) (named : Option Files) (answer : Named) (w w' : Option (List ℕ)) → named ≡ Some files
-    → WhereTold content files (λ s d. IsAnswer s d answer) → Appends w w' (text_of answer) → IsSomeAnd named (λ files. WhereTold content files (IsPrinted w w'))
-printed content files named answer w w' e h went =
-    let P : Option Files → Type 0 = λ o. IsSomeAnd o (λ files. WhereTold content files (IsPrinted w w')) in
-    subst P (sym e) (where_told (content files.script) (content files.input) (λ s d. IsAnswer s d answer) (IsPrinted w w') h (λ s d a. (answer, a, went)))
+pub printed : (content : List ℕ → Option (List ℕ)) (files : Files) (answer : Named) (w w' : Option (List ℕ))
+    → WhereTold content files (λ s d. IsAnswer s d answer) → Appends w w' (text_of answer) → WhereTold content files (IsPrinted w w')
+printed content files answer w w' h went =
+    where_told (content files.script) (content files.input) (λ s d. IsAnswer s d answer) (IsPrinted w w') h (λ s d a. (answer, a, went))
 
-pub printed_in_part : (content : List ℕ → Option (List ℕ)) (files : Files) (named : Option Files) (answer : Named) (w w' : Option (List ℕ)) → named ≡ Some files
-    → WhereTold content files (λ s d. IsAnswer s d answer) → AppendsFront w w' (text_of answer) → IsSomeAnd named (λ files. WhereTold content files (IsPrintedInPart w w'))
-printed_in_part content files named answer w w' e h went =
-    let P : Option Files → Type 0 = λ o. IsSomeAnd o (λ files. WhereTold content files (IsPrintedInPart w w')) in
-    subst P (sym e) (where_told (content files.script) (content files.input) (λ s d. IsAnswer s d answer) (IsPrintedInPart w w') h (λ s d a. (answer, a, went)))
+pub printed_in_part : (content : List ℕ → Option (List ℕ)) (files : Files) (answer : Named) (w w' : Option (List ℕ))
+    → WhereTold content files (λ s d. IsAnswer s d answer) → AppendsFront w w' (text_of answer) → WhereTold content files (IsPrintedInPart w w')
+printed_in_part content files answer w w' h went =
+    where_told (content files.script) (content files.input) (λ s d. IsAnswer s d answer) (IsPrintedInPart w w') h (λ s d a. (answer, a, went))
 
 -- which status has a number
 pub answered_code : (s : Status) (r : ℕ) → r ≡ code_of s → r ≡ 0 → s ≡ status.Answered
 answered_code status.Answered r e z = refl
+answered_code status.WordsRefused r e z = let different : ◌≡◌ {A = ℕ} 2 0 = sym e ∙ z in cc
 answered_code status.ReadFailed r e z = let different : ◌≡◌ {A = ℕ} 5 0 = sym e ∙ z in cc
 answered_code status.WriteFailed r e z = let different : ◌≡◌ {A = ℕ} 6 0 = sym e ∙ z in cc
 answered_code status.NoMemory r e z = let different : ◌≡◌ {A = ℕ} 7 0 = sym e ∙ z in cc
@@ -42,6 +41,7 @@ answered_code status.NotBuilt r e z = let different : ◌≡◌ {A = ℕ} 8 0 = 
 
 pub write_code : (s : Status) (r : ℕ) → r ≡ code_of s → r ≡ 6 → s ≡ status.WriteFailed
 write_code status.Answered r e z = let different : ◌≡◌ {A = ℕ} 0 6 = sym e ∙ z in cc
+write_code status.WordsRefused r e z = let different : ◌≡◌ {A = ℕ} 2 6 = sym e ∙ z in cc
 write_code status.ReadFailed r e z = let different : ◌≡◌ {A = ℕ} 5 6 = sym e ∙ z in cc
 write_code status.WriteFailed r e z = refl
 write_code status.NoMemory r e z = let different : ◌≡◌ {A = ℕ} 7 6 = sym e ∙ z in cc
@@ -53,18 +53,11 @@ no_answer None p never has = has
 no_answer (Some s) None never has = has
 no_answer (Some s) (Some d) never has = never has.0 has.1
 
-faultless : (content : List ℕ → Option (List ℕ)) (files : Files) (s : Stop) (r : ℕ) (faults faults' : List ℕ → ℕ) (out out' : ℕ) → r ≡ code_of (status_of s)
+-- a run without faults whose files have an answer stops for want of memory alone
+pub stops_faultless : (content : List ℕ → Option (List ℕ)) (files : Files) (s : Stop) (r : ℕ) (faults faults' : List ℕ → ℕ) (out out' : ℕ) → r ≡ code_of (status_of s)
     → (s ≡ stop.NotBuilt → WhereTold content files HasNoAnswer) → (s ≡ stop.ScriptUnread → Rose (faults files.script) (faults' files.script)) → (s ≡ stop.DataUnread → Rose (faults files.input) (faults' files.input))
     → IsFaultless content files faults faults' out out' → (r ≡ 0) ⊎ (r ≡ 7)
-faultless content files stop.ScriptUnread r f f' o o' e built script input h = absurd (h.script_read (script refl))
-faultless content files stop.DataUnread r f f' o o' e built script input h = absurd (h.input_read (input refl))
-faultless content files stop.NoMemory r f f' o o' e built script input h = inr e
-faultless content files stop.NotBuilt r f f' o o' e built script input h = absurd (no_answer (content files.script) (content files.input) (built refl) h.has_answer)
-
--- a run without faults whose files have an answer stops for want of memory alone
-pub stops_faultless : (content : List ℕ → Option (List ℕ)) (files : Files) (named : Option Files) (s : Stop) (r : ℕ) (faults faults' : List ℕ → ℕ) (out out' : ℕ) → named ≡ Some files → r ≡ code_of (status_of s)
-    → (s ≡ stop.NotBuilt → WhereTold content files HasNoAnswer) → (s ≡ stop.ScriptUnread → Rose (faults files.script) (faults' files.script)) → (s ≡ stop.DataUnread → Rose (faults files.input) (faults' files.input))
-    → IfSome named (λ files. IsFaultless content files faults faults' out out' → (r ≡ 0) ⊎ (r ≡ 7))
-stops_faultless content files named s r f f' o o' is e built script input =
-    let P : Option Files → Type 0 = λ n. IfSome n (λ files. IsFaultless content files f f' o o' → (r ≡ 0) ⊎ (r ≡ 7)) in
-    subst P (sym is) (faultless content files s r f f' o o' e built script input)
+stops_faultless content files stop.ScriptUnread r f f' o o' e built script input h = absurd (h.script_read (script refl))
+stops_faultless content files stop.DataUnread r f f' o o' e built script input h = absurd (h.input_read (input refl))
+stops_faultless content files stop.NoMemory r f f' o o' e built script input h = inr e
+stops_faultless content files stop.NotBuilt r f f' o o' e built script input h = absurd (no_answer (content files.script) (content files.input) (built refl) h.has_answer)

@@ -3,7 +3,7 @@ use Rattle.std.specs.Prelude.{◌≡◌, ◌≢◌, ℕ, ◌⊎◌, List, Option
 use Rattle.outside.specs.Outside.{Rose, Appends, AppendsFront}
 use Rattle.data_text.specs.declared.value.Named.{Named}
 use Rattle.data_text.specs.Printed.{text_of}
-use Rattle.sketo_run.specs.CommandLine.{Files}
+use Rattle.sketo_run.specs.Commands.{Files}
 use Rattle.sketo_run.specs.Answer.{IsAnswer, IsBuilt}
 
 -- P of the contents of both files, where both are told
@@ -14,9 +14,13 @@ WhereTold content files P = IfSome (content files.script) (λ script. IfSome (co
 abbrev pub AreTold : (List ℕ → Option (List ℕ)) → Files → (List ℕ → List ℕ → Type 0) → Type 0
 AreTold content files P = IsSomeAnd (content files.script) (λ script. IsSomeAnd (content files.input) (λ input. P script input))
 
--- answered, a read failed, a write failed, memory was refused, or a form isn't built
+-- of a run: answered, a read failed, a write failed, memory was refused, or a form isn't built
+abbrev pub IsRunStatus : ℕ → Type 0
+IsRunStatus n = (n ≡ 0) ⊎ ((n ≡ 5) ⊎ ((n ≡ 6) ⊎ ((n ≡ 7) ⊎ (n ≡ 8))))
+
+-- those, and that the words are refused
 abbrev pub IsStatus : ℕ → Type 0
-IsStatus n = (n ≡ 0) ⊎ ((n ≡ 5) ⊎ ((n ≡ 6) ⊎ ((n ≡ 7) ⊎ (n ≡ 8))))
+IsStatus n = (n ≡ 2) ⊎ IsRunStatus n
 
 -- the text of the answer went out
 abbrev pub IsPrinted : Option (List ℕ) → Option (List ℕ) → List ℕ → List ℕ → Type 0

@@ -1,4 +1,3 @@
-pub mod CommandLine
 pub mod Refusals
 pub mod Commands
 pub mod Words

@@ -1,5 +1,5 @@
 -- The words of the command line: a command with its operands and settings, or the first refusal.
-use Rattle.std.specs.Prelude.{ℕ, Bool, false, not, ◌&&◌, ◌==◌, nat_le, List, [], ◌∷◌, ◌++◌, length, map, Option, Some, None, option_map, option_and_then, is_some, is_none, unwrap_or, ok_or, Result, Err, codes, bytes_eq, string_bytes, String, if◌then◌else◌}
+use Rattle.std.specs.Prelude.{ℕ, Bool, false, not, ◌&&◌, ◌==◌, nat_le, List, [], ◌∷◌, ◌++◌, length, map, Option, Some, None, option_map, option_and_then, is_some, is_none, unwrap_or, ok_or, Result, Ok, Err, codes, bytes_eq, string_bytes, String, if◌then◌else◌}
 use Rattle.std.specs.Bool.{then_some}
 use Rattle.std.specs.Option.{option_or}
 use Rattle.std.specs.List.{filter_map}
@@ -12,7 +12,7 @@ use Rattle.sketo_run.specs.declared.command.Setting.TheVariants.{M, Block, Worke
 use Rattle.sketo_run.specs.declared.command.Settings.{Settings}
 use Rattle.sketo_run.specs.declared.refusal.WordFault.{WordFault}
 use Rattle.sketo_run.specs.declared.refusal.WordFault.TheVariants.{UnknownCommand, UnknownOption, GivenTwice, NoValue, BadNumber, BadName, InputTwice, OneTooMany}
-use Rattle.sketo_run.specs.Commands.{Command, run, check, plan, bridges, trial, verb_of, operand_count, setting_of, option_of, greatest_of, default_of, greatest_seed}
+use Rattle.sketo_run.specs.Commands.{Files, Command, run, check, plan, bridges, trial, verb_of, operand_count, setting_of, option_of, greatest_of, default_of, greatest_seed}
 use Rattle.sketo_run.specs.Refusals.{Refusal, no_command, at, too_few}
 
 -- what stands after the command: an operand, or an option with the word after it
@@ -124,3 +124,11 @@ command_line (word ∷ words) = named_command (verb_of word) word (items_of word
 -- the words as texts
 abbrev pub texts_of : List (String Global) → List (List ℕ)
 texts_of words = map string_bytes words
+
+-- the files of a run, where the words ask for one
+abbrev pub files_in : Result Command Refusal → Option Files
+files_in (Ok (run files settings)) = Some files
+files_in answer = None
+
+abbrev pub run_files : List (List ℕ) → Option Files
+run_files words = files_in (command_line words)

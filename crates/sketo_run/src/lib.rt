@@ -10,12 +10,12 @@ mod number;
 mod operands;
 mod refusal;
 mod report;
+mod run;
 mod script_text;
 mod status;
 mod stop;
 mod sum;
 mod top;
-mod words;
 
 pub use status::Status;
 pub use top::sketo;

@@ -7,6 +7,8 @@ ghost use Rattle.sketo_run.specs.Statuses.{code_of};
 pub enum Status {
     /// Answered; the full text is on output.
     Answered,
+    /// The words are refused.
+    WordsRefused,
     /// A read failed.
     ReadFailed,
     /// A write to output failed.
@@ -24,6 +26,7 @@ impl Status {
     {
         match self {
             Status::Answered => 0,
+            Status::WordsRefused => 2,
             Status::ReadFailed => 5,
             Status::WriteFailed => 6,
             Status::NoMemory => 7,

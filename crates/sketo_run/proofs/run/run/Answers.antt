@@ -1,0 +1,20 @@
+use Rattle.std.proofs.Common.{ap, ◌∙◌, Err}
+use Rattle.sketo_run.specs.Statuses.{code_of}
+use Rattle.sketo_run.proofs.EndLemmas.{printed, printed_in_part, answered_code, write_code, stops_faultless}
+use Rattle.sketo_run.proofs.run.run.Goals as goal
+
+pub returns-in-Ok-clause-answered : goal.returns-in-Ok-clause-answered
+returns-in-Ok-clause-answered g c = λ e.
+    printed (g.F.Shelf.content c.args.shelf.now) (record { script = c.args.script.now; input = c.args.input.now }) c.in-Ok.answer _ _
+    c.in-Ok.ensures.ok (c.print.ensures.text (answered_code c.print.result c.code.result c.code.ensures e))
+
+pub returns-in-Ok-clause-in_part : goal.returns-in-Ok-clause-in_part
+returns-in-Ok-clause-in_part g c = λ e.
+    printed_in_part (g.F.Shelf.content c.args.shelf.now) (record { script = c.args.script.now; input = c.args.input.now }) c.in-Ok.answer _ _
+    c.in-Ok.ensures.ok (c.print.ensures.front (write_code c.print.result c.code.result c.code.ensures e))
+
+pub returns-in-Err-clause-complete : goal.returns-in-Err-clause-complete
+returns-in-Err-clause-complete g c =
+    stops_faultless (g.F.Shelf.content c.args.shelf.now) (record { script = c.args.script.now; input = c.args.input.now }) c.in-Err.stop _ (g.F.Shelf.faults c.args.shelf.now) (g.F.Shelf.faults c.answer.new.shelf) _ _
+    (c.code-in-Err.ensures ∙ ap code_of c.status.ensures)
+    (λ e. c.in-Err.ensures.not_built (ap Err e)) (λ e. c.in-Err.ensures.script_unread (ap Err e)) (λ e. c.in-Err.ensures.input_unread (ap Err e))
