@@ -5,7 +5,7 @@ ghost use Rattle.std.specs.Thread.{IsSync, IsSend};
 ghost use Rattle.worker_split.specs.declared.board.TheConstants.{MAX_WORKERS};
 ghost use Rattle.worker_split.specs.Crew.{AllFilled, AllFinished, AllIdle, IsFinished, IsIdle, passes_of};
 ghost use Rattle.worker_split.specs.Items.{IsFilledAt, IsDetermined, Within};
-ghost use Rattle.worker_split.specs.Passes.{tickets_at};
+ghost use Rattle.worker_split.specs.Passes.{ArePassesOf, tickets_at};
 
 use crate::board::{Board, Pass};
 use crate::gate::Gate;
@@ -45,8 +45,7 @@ pub fn run_tasks<R: Threads + Sync, T: Task, G: Gate>(
     ensures determined { (f : ℕ → T.Out) → IsDetermined (T.count task.now) (T.gives task.now) f → IfOk result (λ v. v.items ≡ map f (range_with_len 0 (T.count task.now))) }
 {
     let tickets = task.tickets();
-    let (board, passes) = Board::make(alloc, tickets, crew_size(workers, tickets))?;
-    let mut crew = crew_of(alloc, passes)?;
+    let (board, mut crew) = idle_crew(alloc, workers, tickets)?;
     run_workers(rt, alloc, &board, task, gate, crew.as_mut_slice())?;
     let mut slots = empty_slots(alloc, tickets)?;
     let passes = gather(alloc, task, crew, &mut slots)?;
@@ -54,11 +53,23 @@ pub fn run_tasks<R: Threads + Sync, T: Task, G: Gate>(
     in_order(alloc, task, slots)
 }
 
-// As many workers as asked, but no more than there are tickets, and at least one.
-fn crew_size(asked: u32, tickets: u32) -> u32
-    ensures { result ≡ max 1 (min asked tickets) }
+// A board of so many tickets, and an idle worker for each of its passes: as many as asked, but no
+// more than there are tickets, and at least one.
+fn idle_crew<X: Drop>(
+    alloc: Global,
+    asked: u32,
+    tickets: u32,
+) -> Result<(Board, Vec<Worker<X>>), AllocError>
+    requires some { 1 ≤ asked }
+    requires few { asked ≤ MAX_WORKERS }
+    ensures tickets { IfOk result (λ r. r.0.n ≡ tickets) }
+    ensures size { IfOk result (λ r. r.0.passes ≡ max 1 (min asked tickets)) }
+    ensures passes { IfOk result (λ r. ArePassesOf r.0 (passes_of r.1.items)) }
+    ensures idle { IfOk result (λ r. AllIdle r.0 r.1.items) }
 {
-    asked.min(tickets).max(1)
+    let (board, passes) = Board::make(alloc, tickets, asked.min(tickets).max(1))?;
+    let crew = crew_of(alloc, passes)?;
+    Ok((board, crew))
 }
 
 // A worker for each pass.
