@@ -1,0 +1,9 @@
+pub mod CrewLemmas
+pub mod DealingLemmas
+pub mod EachElement
+pub mod FreshPass
+pub mod ItemLemmas
+pub mod RuleLemmas
+pub mod Schedules
+pub mod Sums
+pub mod Waiting

@@ -1,0 +1,5 @@
+pub mod Crew
+pub mod Dealing
+pub mod Items
+pub mod Passes
+pub mod Rule
