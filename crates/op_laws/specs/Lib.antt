@@ -5,3 +5,4 @@ pub mod Admits
 pub mod Elements
 pub mod Rows
 pub mod Columns
+pub mod Matrices

@@ -1,7 +1,7 @@
-//! What no clause says: that a list takes its elements where there is memory. In each row the
-//! columns grow several times.
+//! What no clause says: that a list takes its elements where there is memory (in each row of the
+//! first test the columns grow several times), and that a matrix is read as it is written.
 
-use crate::{ElemType, List, MAX_ELEMENTS, Tup, Width};
+use crate::{ElemType, List, MAX_ELEMENTS, Matrix, Tup, Width};
 use std::test::Fail;
 
 const LEAST_64: i128 = -9223372036854775808;
@@ -60,5 +60,28 @@ fn a_list_gives_the_elements_that_were_pushed(rt: HostRuntime) -> Result<(), Fai
             assert_eq!(rt; list.at(i), elements[i as usize % 3], "{ty:?} at {i}");
         }
     }
+    Ok(())
+}
+
+#[test]
+fn a_matrix_gives_its_cells_by_row_and_column(rt: HostRuntime) -> Result<(), Fail> {
+    let numbers = [1, 2, 3, 4, 5, 6].to_vec(rt.alloc())?;
+    let matrix = Matrix::of_cells(2, 3, List::of_w64(numbers));
+    let table = [
+        (0, 0, 1),
+        (0, 1, 2),
+        (0, 2, 3),
+        (1, 0, 4),
+        (1, 1, 5),
+        (1, 2, 6),
+    ];
+    for (i, j, number) in table {
+        assert!(rt; i < matrix.rows());
+        assert!(rt; j < matrix.cols());
+        assert_eq!(rt; matrix.at(i, j), Tup::one(number), "row {i}, column {j}");
+    }
+    assert_eq!(rt; (matrix.rows(), matrix.cols()), (2, 3));
+    assert_eq!(rt; matrix.cells().len(), 6);
+    assert_eq!(rt; matrix.into_cells().len(), 6);
     Ok(())
 }
