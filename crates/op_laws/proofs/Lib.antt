@@ -2,3 +2,4 @@ pub mod Conjunctions
 pub mod RowLemmas
 pub mod ColumnLemmas
 pub mod TableLemmas
+pub mod FoldLemmas

@@ -5,3 +5,5 @@ pub mod Admits
 pub mod Elements
 pub mod Rows
 pub mod Columns
+pub mod Laws
+pub mod Folds

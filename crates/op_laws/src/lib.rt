@@ -6,6 +6,7 @@ mod column;
 mod columns;
 mod elem_type;
 mod list;
+mod operator;
 #[cfg(test)]
 mod tests;
 mod tup;
@@ -13,6 +14,7 @@ mod width;
 
 pub use elem_type::ElemType;
 pub use list::List;
+pub use operator::{Lifted, Monoid, Semi};
 pub use tup::Tup;
 pub use width::Width;
 
