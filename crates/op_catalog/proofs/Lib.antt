@@ -1,0 +1,4 @@
+pub mod Meanings
+pub mod BoundLemmas
+pub mod BitMeanings
+pub mod ProductMeaning
