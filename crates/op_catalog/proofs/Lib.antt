@@ -2,3 +2,5 @@ pub mod Meanings
 pub mod BoundLemmas
 pub mod BitMeanings
 pub mod ProductMeaning
+pub mod LineMeaning
+pub mod EndMeanings

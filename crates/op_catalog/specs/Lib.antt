@@ -9,3 +9,7 @@ pub mod Products
 pub mod Bits
 pub mod WordLaws
 pub mod BitLaws
+pub mod Ends
+pub mod EndLaws
+pub mod Lines
+pub mod LineLaws
