@@ -4,3 +4,4 @@ pub mod BitMeanings
 pub mod ProductMeaning
 pub mod LineMeaning
 pub mod EndMeanings
+pub mod SegmentMeaning

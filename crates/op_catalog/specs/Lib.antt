@@ -13,3 +13,5 @@ pub mod Ends
 pub mod EndLaws
 pub mod Lines
 pub mod LineLaws
+pub mod Segments
+pub mod SegmentLaws
