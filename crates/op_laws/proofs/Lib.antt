@@ -3,3 +3,4 @@ pub mod RowLemmas
 pub mod ColumnLemmas
 pub mod TableLemmas
 pub mod MatrixLemmas
+pub mod FoldLemmas

@@ -6,3 +6,5 @@ pub mod Elements
 pub mod Rows
 pub mod Columns
 pub mod Matrices
+pub mod Laws
+pub mod Folds

@@ -7,6 +7,7 @@ mod columns;
 mod elem_type;
 mod list;
 mod matrix;
+mod operator;
 #[cfg(test)]
 mod tests;
 mod tup;
@@ -15,6 +16,7 @@ mod width;
 pub use elem_type::ElemType;
 pub use list::List;
 pub use matrix::Matrix;
+pub use operator::{Lifted, Monoid, Semi};
 pub use tup::Tup;
 pub use width::Width;
 

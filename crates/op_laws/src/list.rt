@@ -1,6 +1,7 @@
 //! Lists of elements, kept by columns.
 
 ghost use Rattle.std.specs.Prelude.{◌≡◌, ◌<◌, ◌≤◌, [], ◌∷◌, ◌++◌, length, slice_index_or, OnOk, OnErr};
+ghost use Rattle.std.specs.List.{All};
 ghost use Rattle.op_laws.specs.declared.width.Width.TheVariants.{W64};
 ghost use Rattle.op_laws.specs.Admits.{Admits};
 ghost use Rattle.op_laws.specs.Elements.{Elements, singles};
@@ -110,5 +111,14 @@ impl List {
         ensures admitted { Admits self.now.ty result }
     {
         self.columns.at(i as usize)
+    }
+
+    /// Each element is one of the list's type. It does nothing: its clause is for proofs that go
+    /// over all elements.
+    #[inline(always)]
+    pub fn admitted(&self)
+        ensures { All (Admits self.now.ty) self.now.items }
+    {
+        let _columns = &self.columns;
     }
 }

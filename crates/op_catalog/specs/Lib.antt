@@ -1,0 +1,17 @@
+pub mod Numbers
+pub mod Rings
+pub mod Sums
+pub mod SumLaws
+pub mod Bounds
+pub mod BoundLaws
+pub mod Words
+pub mod Products
+pub mod Bits
+pub mod WordLaws
+pub mod BitLaws
+pub mod Ends
+pub mod EndLaws
+pub mod Lines
+pub mod LineLaws
+pub mod Segments
+pub mod SegmentLaws

@@ -1,0 +1,86 @@
+//! Bits that are set in all numbers.
+
+ghost use Rattle.std.specs.Prelude.{◌≡◌, [], ◌∷◌, negsuc};
+ghost use Rattle.std.specs.Int.{w64, int_bit_and};
+ghost use Rattle.op_laws.specs.Folds.{Reduces};
+ghost use Rattle.op_catalog.specs.Numbers.{number_of, numbers_of};
+ghost use Rattle.op_catalog.specs.Words.{IsWordType, IsWord};
+ghost use Rattle.op_catalog.specs.Bits.{HasBits, number_with, set_in_all};
+ghost use Rattle.op_catalog.specs.WordLaws.{word_lift_laws};
+ghost use Rattle.op_catalog.specs.BitLaws.{bitwise_combine_laws, bitwise_unit_laws, and_bits};
+
+use crate::words::{is_word_type, word_of};
+use op_laws::{ElemType, Lifted, Monoid, Semi, Tup};
+
+/// Of elements of one number of w64 the number whose bits are those that are set in all, in two's
+/// complement. Of no element it is -1, which has all bits.
+#[derive(Clone, Copy, Debug)]
+pub struct And(());
+
+impl And {
+    /// The operator.
+    pub fn new() -> Self
+        ensures reduces { Reduces (⟦<And as Lifted>⟧.takes result) (⟦<And as Lifted>⟧.finished result) (⟦<And as Monoid>⟧.nothing result)
+            (⟦<And as Lifted>⟧.lifted result) (⟦<And as Semi>⟧.combined result) (λ es. number_with (set_in_all (numbers_of es)) ∷ []) }
+        // what `number_with` is
+        ensures bits { (told : _) → HasBits told (number_with told) }
+    {
+        And(())
+    }
+}
+
+impl Lifted for And {
+    type C = i64;
+
+    ghost takes = { λ _. IsWordType };
+
+    ghost gives = { λ _ ty. ty };
+
+    ghost lifted = { λ _. number_of };
+
+    ghost finished = { λ _ c. c ∷ [] };
+
+    ghost fits = { λ _. IsWord };
+
+    fn accepts(&self, ty: ElemType) -> bool {
+        is_word_type(ty)
+    }
+
+    fn result(&self, ty: ElemType) -> ElemType {
+        ty
+    }
+
+    #[inline(always)]
+    fn lift(&self, e: Tup) -> i64 {
+        word_of(e)
+    }
+
+    #[inline(always)]
+    fn finish(&self, c: i64, _n: u32) -> Tup {
+        Tup::one(c as i128)
+    }
+
+    ghost lift_laws = { λ _. word_lift_laws };
+}
+
+impl Semi for And {
+    ghost combined = { λ _. int_bit_and w64 };
+
+    #[inline(always)]
+    fn combine(&self, a: i64, _na: u32, b: i64, _nb: u32) -> i64 {
+        a & b
+    }
+
+    ghost combine_laws = { λ _. bitwise_combine_laws and_bits };
+}
+
+impl Monoid for And {
+    ghost nothing = { λ _. negsuc 0 };
+
+    #[inline(always)]
+    fn unit(&self) -> i64 {
+        -1
+    }
+
+    ghost unit_laws = { λ _. bitwise_unit_laws and_bits };
+}

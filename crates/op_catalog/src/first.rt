@@ -1,0 +1,83 @@
+//! The first element.
+
+ghost use Rattle.std.specs.Prelude.{◌≡◌};
+ghost use Rattle.op_laws.specs.Folds.{ReducesSome};
+ghost use Rattle.op_catalog.specs.Ends.{first_element, IsOfType};
+ghost use Rattle.op_catalog.specs.EndLaws.{end_lift_laws, first_combine_laws};
+
+use crate::types::same_type;
+use op_laws::{ElemType, Lifted, Semi, Tup};
+use std::marker::Model;
+
+/// The first of elements of one type. Contracts see the operator as that type.
+#[derive(Clone, Copy, Debug)]
+pub struct First {
+    ty: ElemType,
+}
+
+impl Model for First {
+    ghost use Rattle.std.specs.Prelude.{List};
+    ghost use Rattle.op_laws.specs.declared.width.Width.{Width};
+
+    ghost Value = { List Width };
+
+    ghost view = { λ op. op.ty };
+
+    ghost inverse = { λ ty. record { ty = ty } };
+}
+
+impl First {
+    /// The operator for elements of this type. It takes no others.
+    pub fn new(ty: ElemType) -> Self
+        ensures ty { result ≡ ty }
+        ensures reduces { ReducesSome (⟦<First as Lifted>⟧.takes result) (⟦<First as Lifted>⟧.finished result)
+            (⟦<First as Lifted>⟧.lifted result) (⟦<First as Semi>⟧.combined result) first_element }
+    {
+        First { ty }
+    }
+}
+
+impl Lifted for First {
+    type C = Tup;
+
+    ghost takes = { λ own ty. ty ≡ own };
+
+    ghost gives = { λ _ ty. ty };
+
+    ghost lifted = { λ _ e. e };
+
+    ghost finished = { λ _ c. c };
+
+    ghost fits = { IsOfType };
+
+    fn accepts(&self, ty: ElemType) -> bool {
+        same_type(ty, self.ty)
+    }
+
+    fn result(&self, ty: ElemType) -> ElemType {
+        ty
+    }
+
+    #[inline(always)]
+    fn lift(&self, e: Tup) -> Tup {
+        e
+    }
+
+    #[inline(always)]
+    fn finish(&self, c: Tup, _n: u32) -> Tup {
+        c
+    }
+
+    ghost lift_laws = { end_lift_laws };
+}
+
+impl Semi for First {
+    ghost combined = { λ _ a b. a };
+
+    #[inline(always)]
+    fn combine(&self, a: Tup, _na: u32, _b: Tup, _nb: u32) -> Tup {
+        a
+    }
+
+    ghost combine_laws = { first_combine_laws };
+}

@@ -1,0 +1,28 @@
+//! The operators on lists and matrices.
+#![tactic(auto)]
+
+mod affine;
+mod bit_and;
+mod bit_or;
+mod bit_xor;
+mod first;
+mod last;
+mod max;
+mod min;
+mod mss;
+mod mul;
+mod sum;
+mod types;
+mod words;
+
+pub use affine::{Affine, Line};
+pub use bit_and::And;
+pub use bit_or::Or;
+pub use bit_xor::Xor;
+pub use first::First;
+pub use last::Last;
+pub use max::Max;
+pub use min::Min;
+pub use mss::{Mss, Segments};
+pub use mul::Mul;
+pub use sum::Sum;
