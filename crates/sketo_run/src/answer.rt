@@ -10,7 +10,7 @@ use crate::stop::Stop;
 use crate::sum::sum;
 use data_text::{Name, Named, Sections, Shelf, Value, read_data};
 use op_laws::{ElemType, Tup, Width};
-use script_lang::read_script;
+use script_lang::{Script, read_script};
 use std::alloc::{AllocError, Global};
 
 // The sum of the list of this name.
@@ -23,6 +23,14 @@ fn sum_of(sections: &Sections, name: &[u8]) -> Option<i128>
         Value::List(list) => Some(sum(list)),
         Value::Single(_, _) => None,
     }
+}
+
+// The sum of the list that a script reads.
+fn sum_for(sections: &Sections, script: &Script) -> Option<i128>
+    ensures { (n : List ℕ) (xs : List ℤ) → sections.now ≡ one_list n xs
+        → result ≡ (if bytes_eq n script.now.input then Some (total xs) else None) }
+{
+    sum_of(sections, script.input().bytes())
 }
 
 // A sum under a name.
@@ -53,7 +61,7 @@ pub fn answer<F: Shelf>(
     let text = script_text(alloc, shelf, script)?;
     let script = read_script(alloc, &text)?;
     let sections = read_data(alloc, shelf, input)?;
-    match sum_of(&sections, script.input().bytes()) {
+    match sum_for(&sections, &script) {
         Some(sum) => Ok(named(alloc, script.result(), sum)?),
         None => Err(Stop::NotBuilt),
     }

@@ -22,15 +22,11 @@ pub returns-in-Some-clause-ok : goal.returns-in-Some-clause-ok
 returns-in-Some-clause-ok g c =
     let range : FitsSigned w128 c.in-Some.sum = search rules in
     let script = c.in_ok-script.script in
-    let name : c.bytes.result.now ≡ script.input = c.bytes.ensures.value ∙ c.input.ensures in
-    let sum = rw name at c.in-Some.ensures in
     rw (simp (to_z-of_z, c.result.ensures) at c.in_ok-named-in-Some.ensures) (both _ _ _ _ _ c.in_ok-text.ensures.told (rw c.in_ok-text.ensures.content at c.in_ok-sections.ensures.one_list)
-    (λ s d a b. answered s d c.deref.result.now script.input script.result c.in_ok-sections.sections c.in-Some.sum (c.deref.ensures.value ∙ a) c.in_ok-script.ensures.built b sum))
+    (λ s d a b. answered s d c.deref.result.now script.input script.result c.in_ok-sections.sections c.in-Some.sum (c.deref.ensures.value ∙ a) c.in_ok-script.ensures.built b c.in-Some.ensures))
 
 pub returns-clause-not_built : goal.returns-clause-not_built
 returns-clause-not_built g c = λ e.
     let script = c.in_ok-script.script in
-    let name : c.bytes.result.now ≡ script.input = c.bytes.ensures.value ∙ c.input.ensures in
-    let none = rw name at c.in-None.ensures in
     both _ _ _ _ _ c.in_ok-text.ensures.told (rw c.in_ok-text.ensures.content at c.in_ok-sections.ensures.one_list)
-    (λ s d a b. not_answered s d c.deref.result.now script c.in_ok-sections.sections (c.deref.ensures.value ∙ a) c.in_ok-script.ensures.only b none)
+    (λ s d a b. not_answered s d c.deref.result.now script c.in_ok-sections.sections (c.deref.ensures.value ∙ a) c.in_ok-script.ensures.only b c.in-None.ensures)

@@ -1,0 +1,272 @@
+//! What no clause says: that a run answers with ample memory, at each device in memory and through each
+//! layer. The expected ends were worked out by hand from the forms of scripts, data and printed text.
+use outside::{MemShelf, MemSink, Shelf, SureShelf};
+use sketo_run::sketo;
+use std::alloc::{AllocError, Global};
+use std::process::Abort;
+use std::test::Fail;
+
+const SUM: &str = "input x list\nlet r = reduce add x\nprint r\n";
+
+const FIVE: &str = "x list 5 1 2 3 4 5\n";
+
+const RUN: &str = "run s d";
+
+// How a run ended: its status, and what went to output and to error output.
+#[derive(Drop)]
+struct End {
+    status: u8,
+    out: MemSink,
+    err: MemSink,
+}
+
+// The words of a command line.
+fn words(alloc: Global, line: &str) -> Result<Vec<String>, AllocError> {
+    let mut words = Vec::new(alloc);
+    for word in line.split_whitespace() {
+        words.push(String::from_str(alloc, word)?)?;
+    }
+    Ok(words)
+}
+
+// The files s and d, of which an absent one isn't there.
+fn files(
+    alloc: Global,
+    script: Option<&str>,
+    data: Option<&str>,
+) -> Result<Vec<(String, Vec<u8>)>, AllocError> {
+    let mut files = Vec::new(alloc);
+    for (name, text) in [("s", script), ("d", data)] {
+        if let Some(text) = text {
+            let bytes = text.as_bytes().to_vec(alloc)?;
+            files.push((String::from_str(alloc, name)?, bytes))?;
+        }
+    }
+    Ok(files)
+}
+
+// A sink with room for 100 bytes, whose first put fails after so many bytes, if at all.
+fn sink(alloc: Global, fails_after: Option<u32>) -> Result<MemSink, AllocError> {
+    let mut fails = Vec::new(alloc);
+    if let Some(count) = fails_after {
+        fails.push((0, count))?;
+    }
+    MemSink::new(alloc, 100, fails)
+}
+
+fn run<F: Shelf>(
+    alloc: Global,
+    line: &str,
+    shelf: &mut F,
+    mut out: MemSink,
+    mut err: MemSink,
+) -> Result<End, AllocError> {
+    let words = words(alloc, line)?;
+    let status = sketo(alloc, &words, shelf, &mut out, &mut err);
+    Ok(End { status, out, err })
+}
+
+// A run over a shelf and sinks that don't fail.
+fn run_sure(
+    alloc: Global,
+    line: &str,
+    script: Option<&str>,
+    data: Option<&str>,
+) -> Result<End, AllocError> {
+    let mut shelf = SureShelf::new(alloc, files(alloc, script, data)?);
+    let (out, err) = (sink(alloc, None)?, sink(alloc, None)?);
+    run(alloc, line, &mut shelf, out, err)
+}
+
+// A run over a shelf that reads in pieces, and of whose calls those of these numbers fail.
+fn run_in_pieces(
+    rt: &impl Abort,
+    alloc: Global,
+    files: Vec<(String, Vec<u8>)>,
+    piece: u32,
+    fails: Vec<u32>,
+) -> Result<End, AllocError> {
+    assert!(rt; piece > 0);
+    let mut shelf = MemShelf::new(alloc, files, piece, fails)?;
+    let (out, err) = (sink(alloc, None)?, sink(alloc, None)?);
+    run(alloc, RUN, &mut shelf, out, err)
+}
+
+fn assert_end(rt: &impl Abort, end: &End, status: u8, out: &str, err: &str, row: &str) {
+    assert_eq!(rt; end.status, status, "the status of {row}");
+    assert_eq!(rt; end.out.bytes(), out.as_bytes(), "the output of {row}");
+    assert_eq!(rt;
+        end.err.bytes(),
+        err.as_bytes(),
+        "the error output of {row}"
+    );
+}
+
+// A script adds up data to this output, over each shelf.
+fn assert_sum(
+    rt: &impl Abort,
+    alloc: Global,
+    script: &str,
+    data: &str,
+    out: &str,
+) -> Result<(), AllocError> {
+    let end = run_sure(alloc, RUN, Some(script), Some(data))?;
+    assert_end(rt, &end, 0, out, "", data);
+    for piece in [1, 2, 4096] {
+        let files = files(alloc, Some(script), Some(data))?;
+        let end = run_in_pieces(rt, alloc, files, piece, Vec::new(alloc))?;
+        assert_end(rt, &end, 0, out, "", data);
+    }
+    Ok(())
+}
+
+#[test]
+fn a_script_adds_up_a_list(rt: HostRuntime) -> Result<(), Fail> {
+    let alloc = rt.alloc();
+    for (script, data, out) in [
+        (SUM, FIVE, "r value 15\n"),
+        (SUM, "x list 0\n", "r value 0\n"),
+        (SUM, "x list 1 -7", "r value -7\n"),
+        (SUM, "\r\n x\tlist 2\n\n3 -3\n", "r value 0\n"),
+        (
+            SUM,
+            "x list 2 9223372036854775807 9223372036854775807",
+            "r value 18446744073709551614\n",
+        ),
+        (
+            SUM,
+            "x list 2 -9223372036854775808 -9223372036854775808",
+            "r value -18446744073709551616\n",
+        ),
+        (
+            "; the sum\n\ninput numbers list\n\tlet The_Sum = reduce add numbers\nprint The_Sum",
+            "numbers list 3 10 20 30",
+            "The_Sum value 60\n",
+        ),
+    ] {
+        assert_sum(&rt, alloc, script, data, out)?;
+    }
+    Ok(())
+}
+
+#[test]
+fn other_forms_are_not_built(rt: HostRuntime) -> Result<(), Fail> {
+    let alloc = rt.alloc();
+    let prints_x = Some("input x list\nlet r = reduce add x\nprint x\n");
+    for (script, data) in [
+        (prints_x, Some(FIVE)),
+        (prints_x, None),
+        (Some(""), Some(FIVE)),
+        (Some(SUM), Some("")),
+        (Some(SUM), Some("x lust 0")),
+        (Some(SUM), Some("x list 2 1")),
+        (Some(SUM), Some("x list 1 1 2")),
+        (Some(SUM), Some("y list 0")),
+        (Some(SUM), Some("x list 0 y list 0")),
+        (Some(SUM), Some("x list 1 9223372036854775808")),
+        (Some(SUM), Some("x list 1 -9223372036854775809")),
+    ] {
+        let end = run_sure(alloc, RUN, script, data)?;
+        let row = data.unwrap_or("no data");
+        assert_end(&rt, &end, 8, "", "stage: not built\n", row);
+    }
+    Ok(())
+}
+
+#[test]
+fn refused_words_end_with_their_line(rt: HostRuntime) -> Result<(), Fail> {
+    let alloc = rt.alloc();
+    for (line, told) in [
+        ("", "words: no command\n"),
+        ("run", "words: too few words\n"),
+        ("run s", "words: too few words\n"),
+        ("run s d d", "words: d: one word too many\n"),
+        ("walk s d", "words: walk: unknown command\n"),
+        ("run -- d", "words: --: unknown option\n"),
+        ("run s --time", "words: --time: unknown option\n"),
+        ("run - -", "words: -: standard input twice\n"),
+        ("run s d --workers 65", "words: 65: bad number\n"),
+        ("run s d --m 2 --m 3", "words: --m: given twice\n"),
+        ("run s d --block", "words: --block: no value\n"),
+        ("check s --m 2", "words: --m: unknown option\n"),
+        ("bridges d 1x", "words: 1x: bad name\n"),
+    ] {
+        let end = run_sure(alloc, line, Some(SUM), Some(FIVE))?;
+        assert_end(&rt, &end, 2, "", told, line);
+    }
+    Ok(())
+}
+
+#[test]
+fn settings_change_no_answer_and_other_commands_are_not_built(
+    rt: HostRuntime,
+) -> Result<(), Fail> {
+    let alloc = rt.alloc();
+    for line in [
+        "run s d --m 1 --block 1 --workers 1",
+        "run --workers 64 s --block 4294967295 d --m 4294967295",
+    ] {
+        let end = run_sure(alloc, line, Some(SUM), Some(FIVE))?;
+        assert_end(&rt, &end, 0, "r value 15\n", "", line);
+    }
+    for line in ["check s", "plan absent", "bridges d t --m 3", "trial 1"] {
+        let end = run_sure(alloc, line, Some(SUM), Some(FIVE))?;
+        assert_end(&rt, &end, 8, "", "stage: not built\n", line);
+    }
+    Ok(())
+}
+
+#[test]
+fn a_file_that_is_absent_is_named(rt: HostRuntime) -> Result<(), Fail> {
+    let alloc = rt.alloc();
+    for (line, script, data, told) in [
+        (RUN, Some(SUM), None, "read: d: failed\n"),
+        (RUN, None, Some(FIVE), "read: s: failed\n"),
+        (RUN, None, None, "read: s: failed\n"),
+        ("run - d", Some(SUM), Some(FIVE), "read: -: failed\n"),
+        ("run s -d", Some(SUM), Some(FIVE), "read: -d: failed\n"),
+    ] {
+        let end = run_sure(alloc, line, script, data)?;
+        assert_end(&rt, &end, 5, "", told, told);
+    }
+    Ok(())
+}
+
+#[test]
+fn a_failed_read_names_its_file(rt: HostRuntime) -> Result<(), Fail> {
+    let alloc = rt.alloc();
+    // In pieces of 16 bytes the script of 42 takes a start and four reads, and the data of 19 a start and three.
+    for call in 0..9 {
+        let mut fails = Vec::new(alloc);
+        fails.push(call)?;
+        let files = files(alloc, Some(SUM), Some(FIVE))?;
+        let end = run_in_pieces(&rt, alloc, files, 16, fails)?;
+        let file = if call < 5 { "s" } else { "d" };
+        let told = format!(in alloc; "read: {file}: failed\n")?;
+        let row = format!(in alloc; "call {call}")?;
+        assert_end(&rt, &end, 5, "", told.as_str(), row.as_str());
+    }
+    Ok(())
+}
+
+#[test]
+fn a_failed_write_is_told_and_a_failed_report_changes_nothing(rt: HostRuntime) -> Result<(), Fail> {
+    let alloc = rt.alloc();
+    let five = Some(FIVE);
+    for (data, out_takes, err_takes, status, out, err) in [
+        (five, Some(0), None, 6, "", "write: failed\n"),
+        (five, Some(3), None, 6, "r v", "write: failed\n"),
+        (five, Some(11), None, 6, "r value 15\n", "write: failed\n"),
+        (five, Some(3), Some(3), 6, "r v", "wri"),
+        (five, None, Some(3), 0, "r value 15\n", ""),
+        (None, None, Some(3), 5, "", "rea"),
+        (Some("x"), None, Some(3), 8, "", "sta"),
+    ] {
+        let mut shelf = SureShelf::new(alloc, files(alloc, Some(SUM), data)?);
+        let (to_out, to_err) = (sink(alloc, out_takes)?, sink(alloc, err_takes)?);
+        let end = run(alloc, RUN, &mut shelf, to_out, to_err)?;
+        let row = format!(in alloc; "status {status}, output takes {out_takes:?}")?;
+        assert_end(&rt, &end, status, out, err, row.as_str());
+    }
+    Ok(())
+}
