@@ -9,3 +9,4 @@ pub mod StepLemmas
 pub mod RemainsLemmas
 pub mod ShelfLemmas
 pub mod ListingLemmas
+pub mod FrontLemmas
