@@ -13,3 +13,4 @@ pub mod StepLemmas
 pub mod RemainsLemmas
 pub mod ShelfLemmas
 pub mod ListingLemmas
+pub mod FrontLemmas

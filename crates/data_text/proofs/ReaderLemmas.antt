@@ -65,6 +65,13 @@ pub whole_word : (p : Parser) (text bytes : List ℕ) (at gap end b : ℕ) → i
 whole_word p text bytes at gap end b s l blank =
     no_word p at gap end (text ++ b ∷ bytes) ∙ ap (λ (is : List Item). resume p end is) (word_then_blank text at gap b bytes s l blank)
 
+-- the same, where the word's length is known by another name
+pub whole_word_as : (p : Parser) (text bytes : List ℕ) (at gap end b n : ℕ) → length text ≡ n → is_solid text ≡ true → 0 < n → is_blank b ≡ true
+    → continued_at p [] at gap end (text ++ b ∷ bytes) ≡ resume p end (word at text ∷ items_from (at + n) 0 (b ∷ bytes))
+whole_word_as p text bytes at gap end b n e s l blank =
+    whole_word p text bytes at gap end b s (omega arith) blank
+    ∙ ap (λ (k : ℕ). resume p end (word at text ∷ items_from (at + k) 0 (b ∷ bytes))) e
+
 word_ends : (p : Parser) (w : List ℕ) (at gap end b : ℕ) (bytes : List ℕ) → is_solid w ≡ true → 0 < length w → length w ≤ at → is_blank b ≡ true
     → continued_at p w at gap end (b ∷ bytes) ≡ resume p end (word (at - length w) w ∷ items_from at 0 (b ∷ bytes))
 word_ends p w at gap end b bytes s l le blank =

@@ -13,6 +13,7 @@ pub mod Told
 pub mod Stages
 pub mod Resume
 pub mod Runs
+pub mod Front
 pub mod Continued
 pub mod Shelves
 pub mod Answered

@@ -3,6 +3,7 @@
 
 mod data_fault;
 mod fault;
+mod front;
 mod loading;
 mod name;
 mod numbers;

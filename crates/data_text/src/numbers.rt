@@ -1,5 +1,5 @@
 //! Words as counts and numbers.
-ghost use Rattle.std.specs.Prelude.{◌≡◌, ◌≤◌, min, option_map, option_and_then, true, pos, neg_ℤ, if◌then◌else◌, length};
+ghost use Rattle.std.specs.Prelude.{◌≡◌, min, option_map, option_and_then, true, pos, neg_ℤ, if◌then◌else◌};
 ghost use Rattle.std.specs.Str.Parse.{digits_value};
 ghost use Rattle.std.specs.List.{list_all};
 ghost use Rattle.std.specs.Char.{is_ascii_digit};
@@ -20,22 +20,8 @@ fn is_digits(text: &[u8]) -> bool
     !text.is_empty() && all_digits(text)
 }
 
-// The number that so few digits write that it is in 64 bits.
-#[inline(always)]
-fn short_digits_of(text: &[u8]) -> u64
-    requires digits { is_digits text.now ≡ true }
-    requires short { length text.now ≤ 19 }
-    ensures { result ≡ digits_value 10 text.now }
-{
-    let mut n: u64 = 0;
-    for b in text {
-        n = n * 10 + u64::from(*b - b'0');
-    }
-    n
-}
-
 // The number that digits write, or the greatest of 64 bits where it is greater.
-fn long_digits_of(text: &[u8]) -> u64
+fn digits_of(text: &[u8]) -> u64
     requires { is_digits text.now ≡ true }
     ensures { result ≡ min (digits_value 10 text.now) 18446744073709551615 }
 {
@@ -46,20 +32,6 @@ fn long_digits_of(text: &[u8]) -> u64
             .saturating_add(u64::from(b.saturating_sub(b'0')));
     }
     n
-}
-
-// The number that digits write, or the greatest of 64 bits where it is greater.
-#[inline(always)]
-#[tactic(auto, using(crate::proofs::NumberLemmas::short_value))]
-fn digits_of(text: &[u8]) -> u64
-    requires { is_digits text.now ≡ true }
-    ensures { result ≡ min (digits_value 10 text.now) 18446744073709551615 }
-{
-    if text.len() <= 19 {
-        short_digits_of(text)
-    } else {
-        long_digits_of(text)
-    }
 }
 
 /// The number that a word of digits writes, or the greatest of 64 bits where it is greater.
@@ -74,9 +46,9 @@ pub fn count(text: &[u8]) -> Option<u64>
     }
 }
 
-// A number or its opposite, where it is in the range.
+/// A number or its opposite, where it is in 64 bits.
 #[inline(always)]
-fn signed(negative: bool, n: u64) -> Option<i64>
+pub fn signed(negative: bool, n: u64) -> Option<i64>
     ensures { result ≡ kept_if is_w64 (if negative then neg_ℤ (pos n) else pos n) }
 {
     if negative {

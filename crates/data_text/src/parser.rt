@@ -45,6 +45,7 @@ pub struct Parser {
 impl Parser {
     ghost use Rattle.std.specs.Prelude.{◌≡◌, ◌≢◌, ◌<◌, ◌≤◌, ◌+◌, ℕ, List, [], ◌∷◌, length, map, Ok, OnOk, OnErr, IfErr, bytes_eq, true};
     ghost use Rattle.data_text.specs.Words.{Item, word};
+    ghost use Rattle.data_text.specs.Data.{number_at};
     ghost use Rattle.data_text.specs.Told.{GoesOn, Gives};
     ghost use Rattle.data_text.specs.Named.{section_of};
     ghost use Rattle.data_text.specs.Resume.{resume, words_left, Closes};
@@ -147,6 +148,26 @@ impl Parser {
         }
     }
 
+    /// Takes the next number, where so many are to come after it.
+    #[inline(always)]
+    #[tactic(auto, unfolding(crate::specs::Resume::resume, crate::specs::Data::numbers_at))]
+    pub fn put_number(&mut self, more: u32, x: i64) -> Result<(), Stop>
+        requires { self.old.stage ≡ Stage.Numbers more }
+        ensures no_more { words_left self.new ≤ words_left self.old }
+        ensures fewer { OnOk result (words_left self.new + 1 ≤ words_left self.old) }
+        ensures step { (end : ℕ) (items after : List Item) → number_at end items ≡ Ok (x, after)
+            → GoesOn result (resume self.old end items) (λ _. resume self.new end after) }
+    {
+        self.numbers.push(x)?;
+        if more > 0 {
+            self.stage = Stage::Numbers(more - 1);
+            return Ok(());
+        }
+        self.stage = Stage::Between;
+        self.close()?;
+        Ok(())
+    }
+
     #[tactic(auto, unfolding(crate::specs::Resume::resume, crate::specs::Data::number_at, crate::specs::Data::numbers_at, crate::specs::Data::next))]
     fn take_number(&mut self, more: u32, at: u64, text: &[u8]) -> Result<(), Stop>
         requires short { length text.now ≤ 40 }
@@ -158,14 +179,7 @@ impl Parser {
         let Some(x) = number(text) else {
             return Err(Stop::Form(FormFault::BadNumber(at)));
         };
-        self.numbers.push(x)?;
-        if more > 0 {
-            self.stage = Stage::Numbers(more - 1);
-            return Ok(());
-        }
-        self.stage = Stage::Between;
-        self.close()?;
-        Ok(())
+        self.put_number(more, x)
     }
 
     /// Takes the next word, which begins at this byte.

@@ -6,7 +6,8 @@ ghost use Rattle.data_text.specs.Stages.{words_of_section};
 ghost use Rattle.data_text.specs.Resume.{words_left};
 
 use crate::fault::{FormFault, Stop};
-use crate::parser::Parser;
+use crate::front::front_number;
+use crate::parser::{Parser, Stage};
 use crate::runs::{blank_run, is_blank, solid_run};
 use crate::sections::Sections;
 
@@ -31,6 +32,7 @@ pub struct Reader {
 impl Reader {
     ghost use Rattle.data_text.specs.Told.{GoesOn, Gives};
     ghost use Rattle.data_text.specs.Named.{section_of};
+    ghost use Rattle.data_text.specs.Front.{IsWordOf};
     ghost use Rattle.data_text.specs.Continued.{continued};
 
     // Hands on the word that ends here, if there is one.
@@ -100,6 +102,22 @@ impl Reader {
         Ok(())
     }
 
+    // Takes a number whose word has so many bytes and a blank after it.
+    #[inline(always)]
+    fn pass_number(&mut self, more: u32, x: i64, count: usize) -> Result<(), Stop>
+        requires stage { self.old.parser.stage ≡ Stage.Numbers more }
+        requires empty { self.old.word.items ≡ [] }
+        requires short { count ≤ 40 }
+        ensures step { (end b : ℕ) (text bytes : List ℕ) → IsWordOf text x count → is_blank b ≡ true
+            → GoesOn result (continued self.old end (text ++ b ∷ bytes)) (λ _. continued self.new end (b ∷ bytes)) }
+        ensures at { OnOk result (self.new.at ≡ self.old.at + count) }
+    {
+        self.parser.put_number(more, x)?;
+        self.at += count as u64;
+        self.gap = 0;
+        Ok(())
+    }
+
     // Takes the blanks that a piece begins with, and says how many.
     #[inline(always)]
     fn step_blank(&mut self, piece: &[u8]) -> Result<usize, Stop>
@@ -117,8 +135,7 @@ impl Reader {
     }
 
     // Takes the bytes of a word that a piece begins with, and says how many.
-    #[inline(always)]
-    fn step_solid(&mut self, piece: &[u8]) -> Result<usize, Stop>
+    fn step_word(&mut self, piece: &[u8]) -> Result<usize, Stop>
         requires some { 0 < length piece.now }
         requires solid { is_blank (slice_index piece.now 0) ≡ false }
         ensures moves { IfOk result (λ n. 0 < n) }
@@ -133,6 +150,44 @@ impl Reader {
             self.hold(&piece[..count])?;
         }
         Ok(count)
+    }
+
+    // Takes the number that a piece begins with, or what else it begins with, and says how many bytes it took.
+    #[inline(always)]
+    fn step_number(&mut self, more: u32, piece: &[u8]) -> Result<usize, Stop>
+        requires stage { self.old.parser.stage ≡ Stage.Numbers more }
+        requires empty { self.old.word.items ≡ [] }
+        requires some { 0 < length piece.now }
+        requires solid { is_blank (slice_index piece.now 0) ≡ false }
+        ensures moves { IfOk result (λ n. 0 < n) }
+        ensures within { IfOk result (λ n. n ≤ length piece.now) }
+        ensures at { IfOk result (λ n. self.new.at ≡ self.old.at + n) }
+        ensures step { (end : ℕ) (bytes : List ℕ) → GoesOn result (continued self.old end (piece.now ++ bytes)) (λ n. continued self.new end (drop n piece.now ++ bytes)) }
+    {
+        let Some((x, count)) = front_number(piece) else {
+            return self.step_word(piece);
+        };
+        self.pass_number(more, x, count)?;
+        Ok(count)
+    }
+
+    // Takes what a piece begins with where it begins with no blank, and says how many bytes it took.
+    #[inline(always)]
+    fn step_solid(&mut self, piece: &[u8]) -> Result<usize, Stop>
+        requires some { 0 < length piece.now }
+        requires solid { is_blank (slice_index piece.now 0) ≡ false }
+        ensures moves { IfOk result (λ n. 0 < n) }
+        ensures within { IfOk result (λ n. n ≤ length piece.now) }
+        ensures at { IfOk result (λ n. self.new.at ≡ self.old.at + n) }
+        ensures step { (end : ℕ) (bytes : List ℕ) → GoesOn result (continued self.old end (piece.now ++ bytes)) (λ n. continued self.new end (drop n piece.now ++ bytes)) }
+    {
+        if !self.word.is_empty() {
+            return self.step_word(piece);
+        }
+        match self.parser.stage {
+            Stage::Numbers(more) => self.step_number(more, piece),
+            _ => self.step_word(piece),
+        }
     }
 
     // Takes some bytes from the front of a piece, and says how many.

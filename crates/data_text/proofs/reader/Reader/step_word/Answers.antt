@@ -2,7 +2,7 @@ use Rattle.std.proofs.Common.{◌∙◌, ◌++◌, suc, take, drop, get_or, ap, 
 use Rattle.std.proofs.lemmas.Result.{err_from_is_err_and}
 use Rattle.data_text.specs.Continued.{continued}
 use Rattle.data_text.proofs.StepLemmas.{after_word, cut, seam, told_as}
-use Rattle.data_text.proofs.reader.Reader.step_solid.Goals as goal
+use Rattle.data_text.proofs.reader.Reader.step_word.Goals as goal
 
 pub returns-in_err-take_word-clause-step : goal.returns-in_err-take_word-clause-step
 returns-in_err-take_word-clause-step c = λ end bytes.
