@@ -198,9 +198,7 @@ fn refused_words_end_with_their_line(rt: HostRuntime) -> Result<(), Fail> {
 }
 
 #[test]
-fn settings_change_no_answer_and_other_commands_are_not_built(
-    rt: HostRuntime,
-) -> Result<(), Fail> {
+fn settings_change_no_answer_and_other_commands_are_not_built(rt: HostRuntime) -> Result<(), Fail> {
     let alloc = rt.alloc();
     for line in [
         "run s d --m 1 --block 1 --workers 1",
