@@ -15,3 +15,4 @@ pub mod Lines
 pub mod LineLaws
 pub mod Segments
 pub mod SegmentLaws
+pub mod Catalog
