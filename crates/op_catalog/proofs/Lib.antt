@@ -5,3 +5,4 @@ pub mod ProductMeaning
 pub mod LineMeaning
 pub mod EndMeanings
 pub mod SegmentMeaning
+pub mod DispatchLemmas

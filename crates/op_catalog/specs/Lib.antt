@@ -16,3 +16,5 @@ pub mod LineLaws
 pub mod Segments
 pub mod SegmentLaws
 pub mod Catalog
+pub mod Operators
+pub mod Monoids

@@ -2,9 +2,11 @@
 
 ghost use Rattle.std.specs.Prelude.{◌≡◌};
 ghost use Rattle.op_laws.specs.Folds.{ReducesSome};
+ghost use Rattle.op_catalog.specs.Operators.{IsOperatorOf};
 ghost use Rattle.op_catalog.specs.Ends.{first_element, IsOfType};
 ghost use Rattle.op_catalog.specs.EndLaws.{end_lift_laws, first_combine_laws};
 
+use crate::list_op::ListOp;
 use crate::types::same_type;
 use op_laws::{ElemType, Lifted, Semi, Tup};
 use std::marker::Model;
@@ -32,6 +34,8 @@ impl First {
         ensures ty { result ≡ ty }
         ensures reduces { ReducesSome (⟦<First as Lifted>⟧.takes result) (⟦<First as Lifted>⟧.finished result)
             (⟦<First as Lifted>⟧.lifted result) (⟦<First as Semi>⟧.combined result) first_element }
+        ensures operator { IsOperatorOf (⟦<First as Lifted>⟧.takes result) (⟦<First as Lifted>⟧.gives result) (⟦<First as Lifted>⟧.finished result)
+            (⟦<First as Lifted>⟧.lifted result) (⟦<First as Semi>⟧.combined result) ListOp.First ty }
     {
         First { ty }
     }

@@ -2,9 +2,11 @@
 
 ghost use Rattle.std.specs.Prelude.{◌≡◌};
 ghost use Rattle.op_laws.specs.Folds.{ReducesSome};
+ghost use Rattle.op_catalog.specs.Operators.{IsOperatorOf};
 ghost use Rattle.op_catalog.specs.Ends.{last_element, IsOfType};
 ghost use Rattle.op_catalog.specs.EndLaws.{end_lift_laws, last_combine_laws};
 
+use crate::list_op::ListOp;
 use crate::types::same_type;
 use op_laws::{ElemType, Lifted, Semi, Tup};
 use std::marker::Model;
@@ -32,6 +34,8 @@ impl Last {
         ensures ty { result ≡ ty }
         ensures reduces { ReducesSome (⟦<Last as Lifted>⟧.takes result) (⟦<Last as Lifted>⟧.finished result)
             (⟦<Last as Lifted>⟧.lifted result) (⟦<Last as Semi>⟧.combined result) last_element }
+        ensures operator { IsOperatorOf (⟦<Last as Lifted>⟧.takes result) (⟦<Last as Lifted>⟧.gives result) (⟦<Last as Lifted>⟧.finished result)
+            (⟦<Last as Lifted>⟧.lifted result) (⟦<Last as Semi>⟧.combined result) ListOp.Last ty }
     {
         Last { ty }
     }
