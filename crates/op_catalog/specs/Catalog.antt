@@ -1,5 +1,5 @@
 -- The list operators by name: what elements each takes, what it gives, and what it makes of a list.
-use Rattle.std.specs.Prelude.{◌≡◌, ℕ, Bool, true, false, ◌||◌, ℤ, List, [], ◌∷◌, Option, Some, None, Result, Ok, Err, find, codes, bytes_eq}
+use Rattle.std.specs.Prelude.{ℕ, Bool, true, false, ◌||◌, ℤ, List, [], ◌∷◌, Option, Some, Result, Ok, Err, find, codes, bytes_eq}
 use Rattle.std.specs.Int.{w64, int_wrap}
 use Rattle.op_laws.specs.declared.width.Width.{Width}
 use Rattle.op_laws.specs.declared.width.Width.TheVariants.{W64, W96, W128}

@@ -1,5 +1,5 @@
 -- Which of the operators that have a unit is that of a name at a type of element.
-use Rattle.std.specs.Prelude.{◌≡◌, ℤ, pos, negsuc, ◌+ℤ◌, List, [], ◌∷◌}
+use Rattle.std.specs.Prelude.{pos, negsuc, ◌+ℤ◌, List, [], ◌∷◌}
 use Rattle.std.specs.Int.{w64, int_min, int_max, int_bit_and, int_bit_or, int_bit_xor}
 use Rattle.op_laws.specs.declared.width.Width.{Width}
 use Rattle.op_laws.specs.declared.width.Width.TheVariants.{W64, W96, W128}

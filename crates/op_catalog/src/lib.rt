@@ -15,6 +15,8 @@ mod mss;
 mod mul;
 mod sum;
 mod takes;
+#[cfg(test)]
+mod tests;
 mod types;
 mod visitor;
 mod words;

@@ -98,7 +98,7 @@ impl<const W: u32> Semi for Mss<W> {
             total: a.total + b.total,
             prefix: larger(a.prefix, a.total, b.prefix),
             suffix: larger(b.suffix, a.suffix, b.total),
-            best: larger(a.best.max(b.best), a.suffix, b.prefix),
+            best: best_joined(a.best, b.best, a.suffix, b.prefix),
         }
     }
 
@@ -128,4 +128,13 @@ fn larger(number: i128, a: i128, b: i128) -> i128
     ensures { result ≡ int_max number (a +ℤ b) }
 {
     number.max(a + b)
+}
+
+// The greatest sum of a segment of two parts: it lies in the first, in the second, or spans both.
+#[inline(always)]
+fn best_joined(first: i128, second: i128, suffix: i128, prefix: i128) -> i128
+    requires { FitsSigned w128 (suffix +ℤ prefix) }
+    ensures { result ≡ int_max (int_max first second) (suffix +ℤ prefix) }
+{
+    first.max(second).max(suffix + prefix)
 }
