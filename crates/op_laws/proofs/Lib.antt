@@ -4,3 +4,5 @@ pub mod ColumnLemmas
 pub mod TableLemmas
 pub mod MatrixLemmas
 pub mod FoldLemmas
+pub mod RowEdits
+pub mod TableEdits

@@ -1,5 +1,5 @@
 -- How a list keeps its numbers: words on the layout, which no public clause cites.
-use Rattle.std.specs.Prelude.{Bool, true, false, ℕ, ◌+◌, ◌<◌, ◌^◌, ◌≡◌, ℤ, pos, List, [], ◌∷◌, length, map, get_or}
+use Rattle.std.specs.Prelude.{Bool, true, false, ℕ, ◌+◌, ◌<◌, ◌≤◌, ◌^◌, ◌≡◌, ℤ, pos, List, [], ◌∷◌, length, map, get_or}
 use Rattle.std.specs.List.{All}
 use Rattle.std.specs.Vec.{vec_capacity}
 use Rattle.op_laws.specs.declared.width.Width.{Width}
@@ -22,9 +22,9 @@ abbrev pub room_of : Column → ℕ
 room_of (Narrow v) = vec_capacity v
 room_of (Wide v) = vec_capacity v
 
--- a column has memory for one number more
-abbrev pub HasRoom : Column → Type 0
-HasRoom a = length (numbers_of a) < room_of a
+-- a column has memory for n numbers more
+abbrev pub HasRoom : ℕ → Column → Type 0
+HasRoom n a = length (numbers_of a) + n ≤ room_of a
 
 -- a column keeps 128-bit numbers
 abbrev pub is_wide : Column → Bool

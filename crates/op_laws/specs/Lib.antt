@@ -8,3 +8,8 @@ pub mod Columns
 pub mod Matrices
 pub mod Laws
 pub mod Folds
+pub mod Trees
+pub mod Roses
+pub mod TreeFolds
+pub mod RoseFolds
+pub mod TreeLaws

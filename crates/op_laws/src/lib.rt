@@ -10,6 +10,7 @@ mod matrix;
 mod operator;
 #[cfg(test)]
 mod tests;
+mod tree_operator;
 mod tup;
 mod width;
 
@@ -17,6 +18,7 @@ pub use elem_type::ElemType;
 pub use list::List;
 pub use matrix::Matrix;
 pub use operator::{Lifted, Monoid, Semi};
+pub use tree_operator::{DownOp, RoseDown, RoseOp, TreeOp};
 pub use tup::Tup;
 pub use width::Width;
 

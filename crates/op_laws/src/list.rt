@@ -1,6 +1,6 @@
 //! Lists of elements, kept by columns.
 
-ghost use Rattle.std.specs.Prelude.{◌≡◌, ◌<◌, ◌≤◌, [], ◌∷◌, ◌++◌, length, slice_index_or, OnOk, OnErr};
+ghost use Rattle.std.specs.Prelude.{◌≡◌, ◌≢◌, ◌+◌, ◌-◌, ◌<◌, ◌≤◌, Some, [], ◌∷◌, ◌++◌, pos, length, map, reverse, slice_get, slice_index_or, slice_range, slice_set, OnOk, OnErr};
 ghost use Rattle.std.specs.List.{All};
 ghost use Rattle.op_laws.specs.declared.width.Width.TheVariants.{W64};
 ghost use Rattle.op_laws.specs.Admits.{Admits};
@@ -82,7 +82,7 @@ impl List {
         ensures err { OnErr result (self.new ≡ self.old) }
         ensures ty { self.new.ty ≡ self.old.ty }
     {
-        self.columns.reserve()?;
+        self.columns.reserve(1)?;
         self.columns.put(t);
         Ok(())
     }
@@ -120,5 +120,79 @@ impl List {
         ensures { All (Admits self.now.ty) self.now.items }
     {
         let _columns = &self.columns;
+    }
+    /// Gets memory for `n` elements more, so that as many calls of `push` ask for none.
+    pub fn reserve(&mut self, n: u32) -> Result<(), AllocError>
+        ensures { self.new ≡ self.old }
+    {
+        self.columns.reserve(n as usize)
+    }
+
+    /// Adds the elements of another list of the same type, from place `from` up to before place
+    /// `to`, column by column. All columns grow before one gets its numbers, so after a refusal the
+    /// list is what it was.
+    pub fn append_range(&mut self, other: &List, from: u32, to: u32) -> Result<(), AllocError>
+        requires same { other.now.ty ≡ self.old.ty }
+        requires ordered { from ≤ to }
+        requires within { to ≤ length other.now.items }
+        requires room { length self.old.items + (to - from) ≤ MAX_ELEMENTS }
+        ensures ok { OnOk result (self.new.items ≡ self.old.items ++ slice_range other.now.items from to) }
+        ensures err { OnErr result (self.new ≡ self.old) }
+        ensures ty { self.new.ty ≡ self.old.ty }
+    {
+        self.columns.reserve((to - from) as usize)?;
+        self.columns
+            .append(&other.columns, from as usize, to as usize);
+        Ok(())
+    }
+
+    /// Adds all elements of another list of the same type, as `append_range` does.
+    pub fn append(&mut self, other: &List) -> Result<(), AllocError>
+        requires same { other.now.ty ≡ self.old.ty }
+        requires room { length self.old.items + length other.now.items ≤ MAX_ELEMENTS }
+        ensures ok { OnOk result (self.new.items ≡ self.old.items ++ other.now.items) }
+        ensures err { OnErr result (self.new ≡ self.old) }
+        ensures ty { self.new.ty ≡ self.old.ty }
+    {
+        self.append_range(other, 0, other.len())
+    }
+
+    /// Turns the elements round: the last one becomes the first.
+    pub fn reverse(&mut self)
+        ensures items { self.new.items ≡ reverse self.old.items }
+        ensures ty { self.new.ty ≡ self.old.ty }
+    {
+        self.columns.reverse();
+    }
+
+    /// Puts `t` in the place of the element at place `i`, from 0 on.
+    #[inline(always)]
+    pub fn set(&mut self, i: u32, t: Tup)
+        requires admitted { Admits self.old.ty t }
+        requires within { i < length self.old.items }
+        ensures items { self.new.items ≡ slice_set self.old.items i t }
+        ensures ty { self.new.ty ≡ self.old.ty }
+    {
+        self.columns.set(i as usize, t);
+    }
+
+    /// Of each element its number at place `k`, from 0 on, where that number is of width w64.
+    #[inline(always)]
+    pub fn numbers_64(&self, k: usize) -> &[i64]
+        requires { slice_get self.now.ty k ≡ Some W64 }
+        ensures { result.now ≡ map (λ e. slice_index_or e k (pos 0)) self.now.items }
+    {
+        self.columns.column(k).narrow()
+    }
+
+    /// Of each element its number at place `k`, from 0 on, where that number is of another width
+    /// than w64.
+    #[inline(always)]
+    pub fn numbers_128(&self, k: usize) -> &[i128]
+        requires place { k < length self.now.ty }
+        requires wide { slice_get self.now.ty k ≢ Some W64 }
+        ensures { result.now ≡ map (λ e. slice_index_or e k (pos 0)) self.now.items }
+    {
+        self.columns.column(k).wide()
     }
 }
