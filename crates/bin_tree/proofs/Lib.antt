@@ -5,3 +5,5 @@ pub mod TreesFromLemmas
 pub mod RoseLemmas
 pub mod RosesFromLemmas
 pub mod Rows
+pub mod ShapeLemmas
+pub mod Places

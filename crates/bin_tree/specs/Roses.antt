@@ -1,69 +1,8 @@
--- Rose trees, and what stands at the places of their preorder.
-use Rattle.std.specs.Prelude.{◌≡◌, ℕ, zero, suc, ◌+◌, ◌-◌, ℤ, cond, nat_lt, List, [], ◌∷◌, ◌++◌, length}
+-- Rose trees: their plain data, and which rose tree columns stand for.
+use Rattle.std.specs.Prelude.{◌≡◌, ℕ, ℤ, List}
 use Rattle.op_laws.specs.declared.width.Width.{Width}
 use Rattle.op_laws.specs.Elements.{Elements}
-
--- rose trees side by side: none, or a first one, with its value and the trees below it, and those after it
-pub data Forest (A : Type 0) : Type 0 where
-  Bare : Forest A
-  Plant : A → Forest A → Forest A → Forest A
-
--- a value with rose trees below it
-pub record RoseTree (A : Type 0) : Type 0 where
-  pub value : A
-  pub below : Forest A
-
--- the rose trees of a forest, one after another
-abbrev pub trees_of : {A : Type 0} → Forest A → List (RoseTree A)
-trees_of Bare = []
-trees_of (Plant a below after) = record { value = a; below = below } ∷ trees_of after
-
--- the children of the root
-abbrev pub children_of : {A : Type 0} → RoseTree A → List (RoseTree A)
-children_of r = trees_of r.below
-
--- how many children the root has
-abbrev pub degree : {A : Type 0} → RoseTree A → ℕ
-degree r = length (children_of r)
-
--- how many nodes a forest has
-abbrev pub forest_size : {A : Type 0} → Forest A → ℕ
-forest_size Bare = 0
-forest_size (Plant a below after) = 1 + forest_size below + forest_size after
-
--- how many nodes there are
-abbrev pub size : {A : Type 0} → RoseTree A → ℕ
-size r = 1 + forest_size r.below
-
--- the tree in a forest whose root has this place in the preorder, or `other` where there is none
-abbrev pub planted_at : {A : Type 0} → RoseTree A → Forest A → ℕ → RoseTree A
-planted_at other Bare i = other
-planted_at other (Plant a below after) zero = record { value = a; below = below }
-planted_at other (Plant a below after) (suc i) =
-    cond (nat_lt i (forest_size below)) (planted_at other below i) (planted_at other after (i - forest_size below))
-
--- the subtree whose root has this place in the preorder, from 0 on
-abbrev pub sub_at : {A : Type 0} → RoseTree A → ℕ → RoseTree A
-sub_at r zero = r
-sub_at r (suc i) = planted_at r r.below i
-
--- what f says of each tree in a forest, in preorder of their roots
-abbrev pub forest_column : {A X : Type 0} → (RoseTree A → X) → Forest A → List X
-forest_column f Bare = []
-forest_column f (Plant a below after) =
-    f (record { value = a; below = below }) ∷ (forest_column f below ++ forest_column f after)
-
--- what f says of each subtree, in preorder of their roots
-abbrev pub column : {A X : Type 0} → (RoseTree A → X) → RoseTree A → List X
-column f r = f r ∷ forest_column f r.below
-
--- the numbers of children in preorder
-abbrev pub counts_of : {A : Type 0} → RoseTree A → List ℕ
-counts_of r = column degree r
-
--- the values in preorder
-abbrev pub values_of : {A : Type 0} → RoseTree A → List A
-values_of r = column (λ s. s.value) r
+pub use Rattle.op_laws.specs.Roses.{Forest, Bare, Plant, RoseTree, trees_of, children_of, degree, forest_size, size, planted_at, sub_at, forest_column, column, counts_of, values_of, EachPlanted, Each}
 
 -- a rose tree of elements of one type
 pub record TypedRose : Type 0 where

@@ -3,13 +3,15 @@
 
 mod fault;
 mod rose;
+mod steps;
 #[cfg(test)]
 mod tests;
 mod tree;
 
 pub use fault::TreeFault;
 pub use rose::Rose;
-pub use tree::Tree;
+pub use steps::Steps;
+pub use tree::{NodeRef, Tree};
 
 /// How many nodes a rose tree has at most. A binary tree of twice as many and one is still one of
 /// at most 2^32 - 1.

@@ -2,14 +2,14 @@
 
 ghost use Rattle.std.specs.Prelude.{◌≡◌, ℕ, ◌<◌, ◌≤◌, ◌^◌, ◌↔◌, [], ◌∷◌, length, slice_index, slice_index_or, IsTrue, IfOk, IsErrOf, MatchResult};
 ghost use Rattle.op_laws.specs.Admits.{Admits};
-ghost use Rattle.bin_tree.specs.Roses.{size, degree, sub_at, counts_of, values_of, IsRoseOf, IsOnlyRoseOf};
+ghost use Rattle.bin_tree.specs.Roses.{size, degree, sub_at, counts_of, values_of, Each, IsRoseOf, IsOnlyRoseOf};
 ghost use Rattle.bin_tree.specs.Places.{IsClosedAt, IsShort, IsWhole};
 ghost use Rattle.bin_tree.specs.Faults.{IsCause};
 
 use crate::MAX_ROSE_NODES;
 use crate::fault::TreeFault;
 use op_laws::{List, Tup};
-use std::alloc::Global;
+use std::alloc::{AllocError, Global};
 use std::marker::Model;
 
 /// A rose tree of elements of one type: each node has any number of children. Its nodes are named
@@ -89,6 +89,25 @@ impl Rose {
         ensures admitted { Admits self.now.ty result }
     {
         self.values.at(i)
+    }
+
+    /// Each value is one of the rose tree's type. It does nothing: its clause is for proofs that go
+    /// over all nodes.
+    #[inline(always)]
+    pub fn admitted(&self)
+        ensures { Each (Admits self.now.ty) self.now.rose }
+    {
+        self.values.admitted();
+    }
+
+    /// The rose tree of this shape with these values in preorder. It copies the numbers of
+    /// children, and takes the values as they are.
+    pub fn reshape(&self, alloc: Global, values: List) -> Result<Rose, AllocError>
+        requires { length values.items ≡ size self.now.rose }
+        ensures { IfOk result (IsRoseOf (counts_of self.now.rose) values) }
+    {
+        let counts = Vec::from_slice(alloc, &self.counts)?;
+        Ok(Rose { counts, values })
     }
 
     /// Whether both rose trees have the same numbers of children, so that only their values may

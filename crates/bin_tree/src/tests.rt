@@ -1,12 +1,14 @@
 //! What no clause says: that a tree is made where there is memory, and that the clauses mean what
 //! is worked out here by hand.
 
-ghost use Rattle.std.specs.Prelude.{◌≡◌, length, IfOk};
+ghost use Rattle.std.specs.Prelude.{◌≡◌, ◌<◌, length, IfOk};
 
-use crate::{Rose, Tree, TreeFault};
+use crate::{NodeRef, Rose, Steps, Tree, TreeFault};
 use op_laws::{List, Tup};
 use std::alloc::{AllocError, Global};
+use std::marker::Brand;
 use std::process::Abort;
+use std::sync::ledger::{Blank, Ledger};
 use std::test::Fail;
 
 // The numbers 1, 2, 3 and so on, one for each node.
@@ -102,5 +104,50 @@ fn counts_make_a_rose_tree_or_tell_the_first_fault(rt: HostRuntime) -> Result<()
             Err(found) => assert_eq!(rt; Some(found), *fault, "{counts:?}"),
         }
     }
+    Ok(())
+}
+
+// Compares each node with what the values and sizes by place say, and counts the looks.
+fn assert_nodes<L: Ledger>(rt: &impl Abort, tree: &Tree, blank: Blank)
+    requires name { blank.name ≡ L.name }
+    requires parts { blank.parts ≡ L.parts }
+    requires some { 0 < blank.parts }
+{
+    let mut steps = Steps::<L>::new(blank);
+    for i in 0..tree.len() {
+        let leaf = tree.size(i) == 1;
+        let value = tree.value(i);
+        assert_eq!(rt;
+            tree.node(i, &mut steps),
+            NodeRef { leaf, value },
+            "node {i}"
+        );
+    }
+}
+
+#[test]
+fn a_tree_keeps_its_shape_with_other_values(rt: HostRuntime) -> Result<(), Fail> {
+    let leaf = [false, true, false, true, true].to_vec(rt.alloc())?;
+    let tree = Tree::from_marks(rt.alloc(), leaf, numbers(&rt, rt.alloc(), 5)?)?;
+    assert!(rt; tree.len() == 5);
+    assert_nodes::<Brand>(&rt, &tree, Blank::new(1));
+    let other = [0, -2, -3, -4, -5].to_vec(rt.alloc())?;
+    let tree = tree.reshape(rt.alloc(), List::of_w64(other))?;
+    assert_nodes::<Brand>(&rt, &tree, Blank::new(1));
+    assert!(rt; tree.len() == 5);
+    assert_eq!(rt; tree.value(4), Tup::one(-5));
+    Ok(())
+}
+
+#[test]
+fn a_rose_tree_keeps_its_shape_with_other_values(rt: HostRuntime) -> Result<(), Fail> {
+    let counts = [2, 0, 1, 0].to_vec(rt.alloc())?;
+    let rose = Rose::from_counts(rt.alloc(), counts, numbers(&rt, rt.alloc(), 4)?)?;
+    assert!(rt; rose.len() == 4);
+    let other = [9, 8, 7, 6].to_vec(rt.alloc())?;
+    let rose = rose.reshape(rt.alloc(), List::of_w64(other))?;
+    assert!(rt; rose.len() == 4);
+    assert_eq!(rt; (rose.children(0), rose.children(2)), (2, 1));
+    assert_eq!(rt; rose.value(3), Tup::one(6));
     Ok(())
 }

@@ -2,15 +2,24 @@
 
 ghost use Rattle.std.specs.Prelude.{◌≡◌, ℕ, ◌+◌, ◌<◌, ◌≤◌, ◌^◌, ◌↔◌, true, false, [], ◌∷◌, length, map, slice_index_or, IsTrue, IfOk, IsErrOf, MatchResult};
 ghost use Rattle.op_laws.specs.Admits.{Admits};
-ghost use Rattle.bin_tree.specs.Trees.{BTree, size, is_leaf, top, sub_at, column, marks_of, values_of, IsTreeOf, IsOnlyTreeOf};
+ghost use Rattle.bin_tree.specs.Trees.{BTree, size, is_leaf, top, sub_at, column, marks_of, values_of, Each, IsTreeOf, IsOnlyTreeOf};
 ghost use Rattle.bin_tree.specs.Places.{IsClosedAt, IsShort, IsWhole, arity};
 ghost use Rattle.bin_tree.specs.Faults.{IsCause};
 ghost use Rattle.bin_tree.specs.Columns.{tree_from, IsSizedFrom};
 
 use crate::fault::TreeFault;
+use crate::steps::Steps;
 use op_laws::{List, Tup};
 use std::alloc::{AllocError, Global};
 use std::marker::Model;
+use std::sync::ledger::Ledger;
+
+/// A node: whether it is a leaf, and its value.
+#[derive(Clone, Copy, Debug, PartialEq, Eq)]
+pub struct NodeRef {
+    pub leaf: bool,
+    pub value: Tup,
+}
 
 /// A binary tree of elements of one type. Its nodes are named by their places in preorder, from 0
 /// on: a node comes before its left subtree, and that before its right one. Beside its elements it
@@ -101,6 +110,46 @@ impl Tree {
         ensures admitted { Admits self.now.ty result }
     {
         self.values.at(i)
+    }
+
+    /// The node at place `i`. It is one step.
+    #[inline(always)]
+    pub fn node<L: Ledger>(&self, i: u32, steps: &mut Steps<L>) -> NodeRef
+        requires { i < size self.now.tree }
+        ensures leaf { result.leaf ≡ is_leaf (sub_at self.now.tree i) }
+        ensures value { result.value ≡ top (sub_at self.now.tree i) }
+        ensures admitted { Admits self.now.ty result.value }
+        ensures one_step { steps.new ≡ steps.old + 1 }
+    {
+        steps.tick();
+        NodeRef {
+            leaf: self.is_leaf(i),
+            value: self.value(i),
+        }
+    }
+
+    /// Each value is one of the tree's type. It does nothing: its clause is for proofs that go over
+    /// all nodes.
+    #[inline(always)]
+    pub fn admitted(&self)
+        ensures { Each (Admits self.now.ty) self.now.tree }
+    {
+        self.values.admitted();
+    }
+
+    /// The tree of this shape with these values in preorder. It copies the marks and the sizes, and
+    /// takes the values as they are.
+    pub fn reshape(&self, alloc: Global, values: List) -> Result<Tree, AllocError>
+        requires { length values.items ≡ size self.now.tree }
+        ensures { IfOk result (IsTreeOf (marks_of self.now.tree) values) }
+    {
+        let leaf = Vec::from_slice(alloc, &self.leaf)?;
+        let sizes = Vec::from_slice(alloc, &self.sizes)?;
+        Ok(Tree {
+            leaf,
+            values,
+            sizes,
+        })
     }
 
     /// Whether both trees have the same marks, so that only their values may differ. It goes over

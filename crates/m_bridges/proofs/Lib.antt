@@ -1,0 +1,11 @@
+pub mod Ranks
+pub mod Cuts
+pub mod Counts
+pub mod FirstLemmas
+pub mod RestLemmas
+pub mod PathLemmas
+pub mod FullLemmas
+pub mod PlacedLemmas
+pub mod PathPlaces
+pub mod SplitLemmas
+pub mod Rows

@@ -1,0 +1,5 @@
+pub mod Parts
+pub mod Bridges
+pub mod Places
+pub mod Paths
+pub mod Next

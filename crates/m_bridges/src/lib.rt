@@ -1,0 +1,8 @@
+//! The bridges of a binary tree: the parts that it falls into at its m-critical nodes.
+#![tactic(auto)]
+
+mod bridge;
+mod cutting;
+
+pub use bridge::{Bridge, Bridges};
+pub use cutting::{critical, split};
