@@ -4,7 +4,8 @@ use Rattle.std.proofs.lemmas.List.Elements.{All-nil}
 use Rattle.op_laws.specs.declared.width.Width.{Width}
 use Rattle.op_laws.specs.declared.width.Width.TheVariants.{W64, W96, W128}
 use Rattle.op_laws.specs.Admits.{Admits}
-use Rattle.op_laws.specs.Folds.{Reduces}
+use Rattle.std.specs.List.{All}
+use Rattle.op_laws.specs.Folds.{fold_or, Reduces}
 use Rattle.op_catalog.specs.declared.list_op.ListOp.{ListOp}
 use Rattle.op_catalog.specs.declared.takes.Takes.TheVariants.{Words, Pairs}
 use Rattle.op_catalog.specs.Catalog.{typed_by, typed_of, reduction_of}
@@ -48,3 +49,10 @@ pairs_from (W64 ∷ W96 ∷ v ∷ ws) typed = absurd cc
 pairs_from (W64 ∷ W128 ∷ v ∷ ws) typed = absurd cc
 pairs_from (W96 ∷ w ∷ v ∷ ws) typed = absurd cc
 pairs_from (W128 ∷ w ∷ v ∷ ws) typed = absurd cc
+
+-- what the operator of a name makes of a list, by its finished fold
+pub reduction-fold_or : {C : Type 0} {takes : List Width → Type 0} {gives : List Width → List Width} {finished : C → List ℤ} {nothing : C} {lifted : List ℤ → C} {combined : C → C → C}
+    (name : ListOp) (ty : List Width) → IsMonoidOf takes gives finished nothing lifted combined name ty → (es : List (List ℤ)) → All (Admits ty) es
+    → reduction_of name ty es ≡ Some (finished (fold_or nothing lifted combined es))
+reduction-fold_or name ty operator [] all = operator.none
+reduction-fold_or name ty operator (e ∷ es) all = operator.operator.reduces e es all

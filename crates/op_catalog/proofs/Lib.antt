@@ -6,3 +6,4 @@ pub mod LineMeaning
 pub mod EndMeanings
 pub mod SegmentMeaning
 pub mod DispatchLemmas
+pub mod NarrowLemmas

@@ -13,6 +13,7 @@ mod max;
 mod min;
 mod mss;
 mod mul;
+mod reduction;
 mod sum;
 mod takes;
 #[cfg(test)]
@@ -33,6 +34,7 @@ pub use max::Max;
 pub use min::Min;
 pub use mss::{Mss, Segments};
 pub use mul::Mul;
+pub use reduction::reduce;
 pub use sum::Sum;
 pub use takes::{OpFault, Takes};
 pub use visitor::{ListVisitor, MonoidVisitor, visit_list_operator, visit_monoid};

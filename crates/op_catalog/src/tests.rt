@@ -4,8 +4,8 @@
 ghost use Rattle.std.specs.Prelude.{◌≡◌, IfOk};
 ghost use Rattle.op_laws.specs.Admits.{Admits};
 
-use crate::{ListOp, ListVisitor, MonoidVisitor, OpFault, visit_list_operator, visit_monoid};
-use op_laws::{ElemType, List, MAX_ELEMENTS, Monoid, Semi, Tup, Width};
+use crate::{ListOp, ListVisitor, OpFault, reduce, visit_list_operator};
+use op_laws::{ElemType, List, MAX_ELEMENTS, Semi, Tup, Width};
 use std::alloc::{AllocError, Global};
 use std::process::Abort;
 use std::test::Fail;
@@ -17,35 +17,6 @@ const LEAST_64: i128 = -9223372036854775808;
 const GREATEST_96: i128 = 39614081257132168796771975167;
 
 const LEAST_128: i128 = -170141183460469231731687303715884105728;
-
-// A list to be reduced.
-#[derive(Drop)]
-struct Reduction<'a> {
-    list: &'a List,
-}
-
-impl<'a> MonoidVisitor for Reduction<'a> {
-    type Out = Tup;
-
-    ghost asks = { λ of _ ty. of.list.now.ty ≡ ty };
-
-    ghost gives = { λ _ _ _ _. Unit {0} };
-
-    fn visit<M: Monoid>(self, op: &M, _name: ListOp, _ty: ElemType) -> Tup {
-        reduce(self.list, op)
-    }
-}
-
-// The elements' values combined in order, as a result.
-fn reduce<M: Monoid>(x: &List, op: &M) -> Tup
-    requires { M.takes op.now x.now.ty }
-{
-    let mut total = op.unit();
-    for i in 0..x.len() {
-        total = op.combine(total, i, op.lift(x.at(i)), 1);
-    }
-    op.finish(total, x.len())
-}
 
 // Two elements to be combined.
 #[derive(Drop)]
@@ -130,7 +101,7 @@ fn a_list_is_reduced_by_the_operator_of_a_name(rt: HostRuntime) -> Result<(), Fa
         let list = list_of(&rt, rt.alloc(), ty, elements)?;
         assert!(rt; name.typed(ty).is_ok(), "{name:?} takes {ty:?}");
         assert!(rt; name.has_unit(), "{name:?} has a unit");
-        let got = visit_monoid(Reduction { list: &list }, name, ty);
+        let got = reduce(&list, name);
         assert_eq!(rt; got, want, "{name:?} of {elements:?}");
     }
     Ok(())
