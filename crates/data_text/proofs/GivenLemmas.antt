@@ -5,7 +5,7 @@ use Rattle.std.specs.Prelude.{Result, Ok, Err, OnOk, OnErr}
 use Rattle.outside.specs.Outside.{Rose}
 use Rattle.outside.specs.declared.device.Failed.{Failed}
 use Rattle.std.specs.List.{flat_map}
-use Rattle.std.proofs.lemmas.List.{take_more, append-nil, take-append-drop}
+use Rattle.std.proofs.lemmas.List.{take_more, append-nil, take-append-drop, take_all}
 use Rattle.std.proofs.lemmas.Grind.{flat_map-append}
 use Rattle.data_text.specs.Pending.{Pending, IsOpen}
 use Rattle.data_text.specs.Given.{IsGiven, IsCutOff}
@@ -95,3 +95,7 @@ pub loop_cut : {X : Type 0} (f : X → List ℕ) (xs : List X) (i : ℕ) (d : X)
 loop_cut f xs i d a b c w v u k g h lt p le q = rw (← texts_cut f xs i d lt)
     (cut_before (flat_map f (take i xs) ++ f (get_or xs i d)) (flat_map f (drop (i + 1) xs)) a c w u k h
     (given_cut (flat_map f (take i xs)) (f (get_or xs i d)) a b c w v u k g h p le q))
+
+-- the loop is over
+pub loop_ends : {X : Type 0} (f : X → List ℕ) (xs : List X) (i : ℕ) (a b : Pending) (w v : Option (List ℕ)) → length xs ≤ i → IsGiven (flat_map f (take i xs)) a b w v → IsGiven (flat_map f xs) a b w v
+loop_ends f xs i a b w v le p = rw take_all at p

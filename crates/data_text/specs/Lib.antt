@@ -8,13 +8,15 @@ pub mod Given
 pub mod Outlet
 pub mod Printed
 pub mod Named
-pub mod OneList
 pub mod Told
 pub mod Stages
+pub mod KeepsProp
 pub mod Resume
 pub mod Runs
 pub mod Front
 pub mod Continued
 pub mod Shelves
 pub mod Answered
-pub mod Listing
+pub mod Spelled
+pub mod ReadBack
+pub mod FirstFault

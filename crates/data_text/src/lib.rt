@@ -2,9 +2,9 @@
 #![tactic(auto)]
 
 mod data_fault;
-mod fault;
 mod front;
-mod loading;
+mod kept;
+mod laws;
 mod name;
 mod numbers;
 mod outlet;
@@ -14,13 +14,15 @@ mod reader;
 mod reading;
 mod runs;
 mod sections;
+mod stage;
 mod value;
 
 pub use data_fault::DataFault;
+pub use laws::{data_is_what_is_written, fault_is_first};
 pub use name::{Name, is_name};
 pub use outlet::Outlet;
 pub use outside::{Failed, MemShelf, MemSink, Shelf, Sink, SureShelf};
-pub use print::write_value;
+pub use print::{write_value, write_values};
 pub use reading::read_data;
 pub use sections::Sections;
 pub use value::{Named, Value};

@@ -3,11 +3,21 @@ ghost use Rattle.std.specs.Prelude.{◌≡◌, ◌≤◌, ◌<◌, ◌+◌, ◌+
 ghost use Rattle.std.specs.Fmt.{signed_decimal};
 ghost use Rattle.data_text.specs.Given.{IsGiven, IsCutOff};
 ghost use Rattle.data_text.specs.Pending.{IsOpen};
-ghost use Rattle.data_text.specs.Printed.{number_after, element_after, element_text, spaced, value_words, text_of};
+ghost use Rattle.data_text.specs.Printed.{number_after, element_after, element_text, spaced, mark_text, node_words, rose_node_words, value_words, text_of};
+ghost use Rattle.data_text.specs.Named.{AreSections};
+ghost use Rattle.data_text.specs.ReadBack.{IsReadBack};
+ghost use Rattle.bin_tree.specs.Trees as binary;
+ghost use Rattle.bin_tree.specs.Roses as roses;
+ghost use Rattle.data_text.specs.Named.{AreSections};
+ghost use Rattle.data_text.specs.ReadBack.{IsReadBack};
+ghost use Rattle.bin_tree.specs.Trees as binary;
+ghost use Rattle.bin_tree.specs.Roses as roses;
 
+use crate::kept::are_kept;
 use crate::outlet::Outlet;
 use crate::value::{Named, Value};
-use op_laws::{List, Tup};
+use bin_tree::{Rose, Tree};
+use op_laws::{List, Matrix, Tup};
 use outside::{Failed, Sink};
 
 // A byte, and the number at a place of an element.
@@ -123,6 +133,151 @@ fn write_list<O: Sink>(xs: &List, out: &mut Outlet, sink: &mut O) -> Result<(), 
     write_counted(xs, out, sink)
 }
 
+// A space and a count.
+fn write_count_after<O: Sink>(count: u32, out: &mut Outlet, sink: &mut O) -> Result<(), Failed>
+    requires { IsOpen out.old }
+    ensures given { OnOk result (IsGiven (32 ∷ decimal count) out.old out.new (O.written sink.old) (O.written sink.new)) }
+    ensures cut_off { OnErr result (IsCutOff (32 ∷ decimal count) out.old out.new (O.written sink.old) (O.written sink.new) (O.faults sink.old) (O.faults sink.new)) }
+    ensures never_falls { O.faults sink.old ≤ O.faults sink.new }
+{
+    out.text(sink, b" ")?;
+    write_count(count, out, sink)
+}
+
+// The number of columns and the cells of a matrix.
+fn write_columns<O: Sink>(m: &Matrix, out: &mut Outlet, sink: &mut O) -> Result<(), Failed>
+    requires { IsOpen out.old }
+    ensures given { OnOk result (IsGiven ((32 ∷ decimal m.now.cols) ++ flat_map element_after m.now.cells) out.old out.new (O.written sink.old) (O.written sink.new)) }
+    ensures cut_off { OnErr result (IsCutOff ((32 ∷ decimal m.now.cols) ++ flat_map element_after m.now.cells) out.old out.new (O.written sink.old) (O.written sink.new) (O.faults sink.old) (O.faults sink.new)) }
+    ensures never_falls { O.faults sink.old ≤ O.faults sink.new }
+{
+    write_count_after(m.cols(), out, sink)?;
+    write_elements(m.cells(), out, sink)
+}
+
+// The sizes and the cells of a matrix.
+fn write_cells<O: Sink>(m: &Matrix, out: &mut Outlet, sink: &mut O) -> Result<(), Failed>
+    requires { IsOpen out.old }
+    ensures given { OnOk result (IsGiven ((32 ∷ decimal m.now.rows) ++ ((32 ∷ decimal m.now.cols) ++ flat_map element_after m.now.cells)) out.old out.new (O.written sink.old) (O.written sink.new)) }
+    ensures cut_off { OnErr result (IsCutOff ((32 ∷ decimal m.now.rows) ++ ((32 ∷ decimal m.now.cols) ++ flat_map element_after m.now.cells)) out.old out.new (O.written sink.old) (O.written sink.new) (O.faults sink.old) (O.faults sink.new)) }
+    ensures never_falls { O.faults sink.old ≤ O.faults sink.new }
+{
+    write_count_after(m.rows(), out, sink)?;
+    write_columns(m, out, sink)
+}
+
+// A matrix's words.
+fn write_matrix<O: Sink>(m: &Matrix, out: &mut Outlet, sink: &mut O) -> Result<(), Failed>
+    requires { IsOpen out.old }
+    ensures given { OnOk result (IsGiven (spaced (value_words (Value.Matrix m.now))) out.old out.new (O.written sink.old) (O.written sink.new)) }
+    ensures cut_off { OnErr result (IsCutOff (spaced (value_words (Value.Matrix m.now))) out.old out.new (O.written sink.old) (O.written sink.new) (O.faults sink.old) (O.faults sink.new)) }
+    ensures never_falls { O.faults sink.old ≤ O.faults sink.new }
+{
+    out.text(sink, b" matrix")?;
+    write_cells(m, out, sink)
+}
+
+// The word for a leaf or an inner node, after a space.
+fn mark_after(leaf: bool) -> &'static [u8]
+    ensures { result.now ≡ 32 ∷ mark_text leaf }
+{
+    if leaf { b" L" } else { b" N" }
+}
+
+// The words of a node, each after a space.
+fn write_node<O: Sink>(t: &Tree, i: u32, out: &mut Outlet, sink: &mut O) -> Result<(), Failed>
+    requires ready { IsOpen out.old }
+    requires within { i < binary.size t.now.tree }
+    ensures given { OnOk result (IsGiven (spaced (node_words (binary.sub_at t.now.tree i))) out.old out.new (O.written sink.old) (O.written sink.new)) }
+    ensures cut_off { OnErr result (IsCutOff (spaced (node_words (binary.sub_at t.now.tree i))) out.old out.new (O.written sink.old) (O.written sink.new) (O.faults sink.old) (O.faults sink.new)) }
+    ensures never_falls { O.faults sink.old ≤ O.faults sink.new }
+{
+    out.text(sink, mark_after(t.is_leaf(i)))?;
+    write_element_after(t.value(i), out, sink)
+}
+
+// The words of the nodes, in preorder, each after a space.
+fn write_nodes<O: Sink>(t: &Tree, out: &mut Outlet, sink: &mut O) -> Result<(), Failed>
+    requires { IsOpen out.old }
+    ensures given { OnOk result (IsGiven (flat_map (λ s. spaced (node_words s)) (binary.column (λ s. s) t.now.tree)) out.old out.new (O.written sink.old) (O.written sink.new)) }
+    ensures cut_off { OnErr result (IsCutOff (flat_map (λ s. spaced (node_words s)) (binary.column (λ s. s) t.now.tree)) out.old out.new (O.written sink.old) (O.written sink.new) (O.faults sink.old) (O.faults sink.new)) }
+    ensures never_falls { O.faults sink.old ≤ O.faults sink.new }
+{
+    for i in 0..t.len() {
+        write_node(t, i, out, sink)?;
+    }
+    Ok(())
+}
+
+// The number of nodes, and the nodes.
+fn write_counted_nodes<O: Sink>(t: &Tree, out: &mut Outlet, sink: &mut O) -> Result<(), Failed>
+    requires { IsOpen out.old }
+    ensures given { OnOk result (IsGiven ((32 ∷ decimal (binary.size t.now.tree)) ++ flat_map (λ s. spaced (node_words s)) (binary.column (λ s. s) t.now.tree)) out.old out.new (O.written sink.old) (O.written sink.new)) }
+    ensures cut_off { OnErr result (IsCutOff ((32 ∷ decimal (binary.size t.now.tree)) ++ flat_map (λ s. spaced (node_words s)) (binary.column (λ s. s) t.now.tree)) out.old out.new (O.written sink.old) (O.written sink.new) (O.faults sink.old) (O.faults sink.new)) }
+    ensures never_falls { O.faults sink.old ≤ O.faults sink.new }
+{
+    write_count_after(t.len(), out, sink)?;
+    write_nodes(t, out, sink)
+}
+
+// A tree's words.
+fn write_tree<O: Sink>(t: &Tree, out: &mut Outlet, sink: &mut O) -> Result<(), Failed>
+    requires { IsOpen out.old }
+    ensures given { OnOk result (IsGiven (spaced (value_words (Value.Tree t.now))) out.old out.new (O.written sink.old) (O.written sink.new)) }
+    ensures cut_off { OnErr result (IsCutOff (spaced (value_words (Value.Tree t.now))) out.old out.new (O.written sink.old) (O.written sink.new) (O.faults sink.old) (O.faults sink.new)) }
+    ensures never_falls { O.faults sink.old ≤ O.faults sink.new }
+{
+    out.text(sink, b" tree")?;
+    write_counted_nodes(t, out, sink)
+}
+
+// The words of a rose tree's node, each after a space.
+fn write_rose_node<O: Sink>(r: &Rose, i: u32, out: &mut Outlet, sink: &mut O) -> Result<(), Failed>
+    requires ready { IsOpen out.old }
+    requires within { i < roses.size r.now.rose }
+    ensures given { OnOk result (IsGiven (spaced (rose_node_words (roses.sub_at r.now.rose i))) out.old out.new (O.written sink.old) (O.written sink.new)) }
+    ensures cut_off { OnErr result (IsCutOff (spaced (rose_node_words (roses.sub_at r.now.rose i))) out.old out.new (O.written sink.old) (O.written sink.new) (O.faults sink.old) (O.faults sink.new)) }
+    ensures never_falls { O.faults sink.old ≤ O.faults sink.new }
+{
+    write_element_after(r.value(i), out, sink)?;
+    write_count_after(r.children(i), out, sink)
+}
+
+// The words of the nodes of a rose tree, in preorder, each after a space.
+fn write_rose_nodes<O: Sink>(r: &Rose, out: &mut Outlet, sink: &mut O) -> Result<(), Failed>
+    requires { IsOpen out.old }
+    ensures given { OnOk result (IsGiven (flat_map (λ s. spaced (rose_node_words s)) (roses.column (λ s. s) r.now.rose)) out.old out.new (O.written sink.old) (O.written sink.new)) }
+    ensures cut_off { OnErr result (IsCutOff (flat_map (λ s. spaced (rose_node_words s)) (roses.column (λ s. s) r.now.rose)) out.old out.new (O.written sink.old) (O.written sink.new) (O.faults sink.old) (O.faults sink.new)) }
+    ensures never_falls { O.faults sink.old ≤ O.faults sink.new }
+{
+    for i in 0..r.len() {
+        write_rose_node(r, i, out, sink)?;
+    }
+    Ok(())
+}
+
+// The number of nodes of a rose tree, and the nodes.
+fn write_counted_rose_nodes<O: Sink>(r: &Rose, out: &mut Outlet, sink: &mut O) -> Result<(), Failed>
+    requires { IsOpen out.old }
+    ensures given { OnOk result (IsGiven ((32 ∷ decimal (roses.size r.now.rose)) ++ flat_map (λ s. spaced (rose_node_words s)) (roses.column (λ s. s) r.now.rose)) out.old out.new (O.written sink.old) (O.written sink.new)) }
+    ensures cut_off { OnErr result (IsCutOff ((32 ∷ decimal (roses.size r.now.rose)) ++ flat_map (λ s. spaced (rose_node_words s)) (roses.column (λ s. s) r.now.rose)) out.old out.new (O.written sink.old) (O.written sink.new) (O.faults sink.old) (O.faults sink.new)) }
+    ensures never_falls { O.faults sink.old ≤ O.faults sink.new }
+{
+    write_count_after(r.len(), out, sink)?;
+    write_rose_nodes(r, out, sink)
+}
+
+// A rose tree's words.
+fn write_rose<O: Sink>(r: &Rose, out: &mut Outlet, sink: &mut O) -> Result<(), Failed>
+    requires { IsOpen out.old }
+    ensures given { OnOk result (IsGiven (spaced (value_words (Value.Rose r.now))) out.old out.new (O.written sink.old) (O.written sink.new)) }
+    ensures cut_off { OnErr result (IsCutOff (spaced (value_words (Value.Rose r.now))) out.old out.new (O.written sink.old) (O.written sink.new) (O.faults sink.old) (O.faults sink.new)) }
+    ensures never_falls { O.faults sink.old ≤ O.faults sink.new }
+{
+    out.text(sink, b" rose")?;
+    write_counted_rose_nodes(r, out, sink)
+}
+
 // A single value's words.
 fn write_single<O: Sink>(t: Tup, out: &mut Outlet, sink: &mut O) -> Result<(), Failed>
     requires { IsOpen out.old }
@@ -144,6 +299,9 @@ fn write_words<O: Sink>(value: &Value, out: &mut Outlet, sink: &mut O) -> Result
     match value {
         Value::Single(_, t) => write_single(*t, out, sink),
         Value::List(xs) => write_list(xs, out, sink),
+        Value::Matrix(m) => write_matrix(m, out, sink),
+        Value::Tree(t) => write_tree(t, out, sink),
+        Value::Rose(r) => write_rose(r, out, sink),
     }
 }
 
@@ -169,4 +327,31 @@ pub fn write_value<O: Sink>(v: &Named, out: &mut Outlet, sink: &mut O) -> Result
 {
     write_named(v, out, sink)?;
     out.text(sink, b"\n")
+}
+
+// The lines of values, where the outlet is open.
+fn write_lines<O: Sink>(values: &[Named], out: &mut Outlet, sink: &mut O) -> Result<(), Failed>
+    requires { IsOpen out.old }
+    ensures given { OnOk result (IsGiven (flat_map text_of values.now) out.old out.new (O.written sink.old) (O.written sink.new)) }
+    ensures cut_off { OnErr result (IsCutOff (flat_map text_of values.now) out.old out.new (O.written sink.old) (O.written sink.new) (O.faults sink.old) (O.faults sink.new)) }
+    ensures never_falls { O.faults sink.old ≤ O.faults sink.new }
+{
+    for value in values {
+        write_value(value, out, sink)?;
+    }
+    Ok(())
+}
+
+/// Gives the lines of values, one after another, as [`write_value`] does. What is printed of at most 64 values of
+/// distinct names, each with elements of one number of 64 bits, is read again as these values.
+pub fn write_values<O: Sink>(values: &[Named], out: &mut Outlet, sink: &mut O) -> Result<(), Failed>
+    ensures given { OnOk result (IsGiven (flat_map text_of values.now) out.old out.new (O.written sink.old) (O.written sink.new)) }
+    ensures cut_off { OnErr result (IsCutOff (flat_map text_of values.now) out.old out.new (O.written sink.old) (O.written sink.new) (O.faults sink.old) (O.faults sink.new)) }
+    ensures silent { out.old.failed ≡ true → sink.new ≡ sink.old }
+    ensures never_falls { O.faults sink.old ≤ O.faults sink.new }
+    ensures read_back { AreSections values.now → IsReadBack values.now }
+{
+    are_kept(values);
+    out.text(sink, b"")?;
+    write_lines(values, out, sink)
 }

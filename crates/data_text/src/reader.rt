@@ -5,9 +5,9 @@ ghost use Rattle.data_text.specs.Runs.{is_solid, are_blank};
 ghost use Rattle.data_text.specs.Stages.{words_of_section};
 ghost use Rattle.data_text.specs.Resume.{words_left};
 
-use crate::fault::{FormFault, Stop};
+use crate::data_fault::DataFault;
 use crate::front::front_number;
-use crate::parser::{Parser, Stage};
+use crate::parser::Parser;
 use crate::runs::{blank_run, is_blank, solid_run};
 use crate::sections::Sections;
 
@@ -33,11 +33,12 @@ impl Reader {
     ghost use Rattle.data_text.specs.Told.{GoesOn, Gives};
     ghost use Rattle.data_text.specs.Named.{section_of};
     ghost use Rattle.data_text.specs.Front.{IsWordOf};
+    ghost use Rattle.data_text.specs.Stages.{awaits_number};
     ghost use Rattle.data_text.specs.Continued.{continued};
 
     // Hands on the word that ends here, if there is one.
     #[inline(always)]
-    fn end_word(&mut self) -> Result<(), Stop>
+    fn end_word(&mut self) -> Result<(), DataFault>
         ensures blank { (end b : ℕ) (bytes : List ℕ) → is_blank b ≡ true → GoesOn result (continued self.old end (b ∷ bytes)) (λ _. continued self.new end (b ∷ bytes)) }
         ensures last { (end : ℕ) → GoesOn result (continued self.old end []) (λ _. continued self.new end []) }
         ensures empty { OnOk result (self.new.word.items ≡ []) }
@@ -54,7 +55,7 @@ impl Reader {
 
     // Passes so many blanks.
     #[inline(always)]
-    fn pass_blanks(&mut self, count: usize) -> Result<(), Stop>
+    fn pass_blanks(&mut self, count: usize) -> Result<(), DataFault>
         requires empty { self.old.word.items ≡ [] }
         ensures step { (end : ℕ) (blanks bytes : List ℕ) → are_blank blanks ≡ true → length blanks ≡ count
             → GoesOn result (continued self.old end (blanks ++ bytes)) (λ _. continued self.new end bytes) }
@@ -62,65 +63,65 @@ impl Reader {
     {
         let room = 65_536 - self.gap;
         if count > room as usize {
-            return Err(Stop::Form(FormFault::LongGap(self.at + u64::from(room))));
+            return Err(DataFault::LongGap(self.at + u64::from(room)));
         }
         self.gap += count as u32;
         self.at += count as u64;
         Ok(())
     }
 
-    // Takes a word after which a blank stands.
+    // Takes a word after which a blank stands, and that blank.
     #[inline(always)]
-    fn take_word(&mut self, text: &[u8]) -> Result<(), Stop>
+    fn take_word(&mut self, text: &[u8]) -> Result<(), DataFault>
         requires empty { self.old.word.items ≡ [] }
         requires some { 0 < length text.now }
         requires solid { is_solid text.now ≡ true }
         ensures step { (end b : ℕ) (bytes : List ℕ) → is_blank b ≡ true
-            → GoesOn result (continued self.old end (text.now ++ b ∷ bytes)) (λ _. continued self.new end (b ∷ bytes)) }
-        ensures at { OnOk result (self.new.at ≡ self.old.at + length text.now) }
+            → GoesOn result (continued self.old end (text.now ++ b ∷ bytes)) (λ _. continued self.new end bytes) }
+        ensures at { OnOk result (self.new.at ≡ self.old.at + (length text.now + 1)) }
     {
         if text.len() > LONGEST_WORD {
-            return Err(Stop::Form(FormFault::LongWord(self.at)));
+            return Err(DataFault::LongWord(self.at));
         }
         self.parser.take(self.at, text)?;
-        self.at += text.len() as u64;
-        self.gap = 0;
+        self.at += text.len() as u64 + 1;
+        self.gap = 1;
         Ok(())
     }
 
     // Keeps bytes of a word that may go on after them.
-    fn hold(&mut self, text: &[u8]) -> Result<(), Stop>
+    fn hold(&mut self, text: &[u8]) -> Result<(), DataFault>
         requires solid { is_solid text.now ≡ true }
         ensures step { (end : ℕ) (bytes : List ℕ) → GoesOn result (continued self.old end (text.now ++ bytes)) (λ _. continued self.new end bytes) }
         ensures at { OnOk result (self.new.at ≡ self.old.at + length text.now) }
     {
         if text.len() > LONGEST_WORD - self.word.len() {
-            return Err(Stop::Form(FormFault::LongWord(self.at - self.word.len() as u64)));
+            return Err(DataFault::LongWord(self.at - self.word.len() as u64));
         }
         self.word.extend_from_slice(text)?;
         self.at += text.len() as u64;
         Ok(())
     }
 
-    // Takes a number whose word has so many bytes and a blank after it.
+    // Takes a number whose word has so many bytes, and the blank after it.
     #[inline(always)]
-    fn pass_number(&mut self, more: u32, x: i64, count: usize) -> Result<(), Stop>
-        requires stage { self.old.parser.stage ≡ Stage.Numbers more }
+    fn pass_number(&mut self, x: i64, count: usize) -> Result<(), DataFault>
+        requires awaited { awaits_number self.old.parser.stage ≡ true }
         requires empty { self.old.word.items ≡ [] }
         requires short { count ≤ 40 }
         ensures step { (end b : ℕ) (text bytes : List ℕ) → IsWordOf text x count → is_blank b ≡ true
-            → GoesOn result (continued self.old end (text ++ b ∷ bytes)) (λ _. continued self.new end (b ∷ bytes)) }
-        ensures at { OnOk result (self.new.at ≡ self.old.at + count) }
+            → GoesOn result (continued self.old end (text ++ b ∷ bytes)) (λ _. continued self.new end bytes) }
+        ensures at { OnOk result (self.new.at ≡ self.old.at + (count + 1)) }
     {
-        self.parser.put_number(more, x)?;
-        self.at += count as u64;
-        self.gap = 0;
+        self.parser.put(self.at, x)?;
+        self.at += count as u64 + 1;
+        self.gap = 1;
         Ok(())
     }
 
     // Takes the blanks that a piece begins with, and says how many.
     #[inline(always)]
-    fn step_blank(&mut self, piece: &[u8]) -> Result<usize, Stop>
+    fn step_blank(&mut self, piece: &[u8]) -> Result<usize, DataFault>
         requires some { 0 < length piece.now }
         requires blank { is_blank (slice_index piece.now 0) ≡ true }
         ensures moves { IfOk result (λ n. 0 < n) }
@@ -134,8 +135,8 @@ impl Reader {
         Ok(count)
     }
 
-    // Takes the bytes of a word that a piece begins with, and says how many.
-    fn step_word(&mut self, piece: &[u8]) -> Result<usize, Stop>
+    // Takes the bytes of a word that a piece begins with, and a blank after it, and says how many.
+    fn step_word(&mut self, piece: &[u8]) -> Result<usize, DataFault>
         requires some { 0 < length piece.now }
         requires solid { is_blank (slice_index piece.now 0) ≡ false }
         ensures moves { IfOk result (λ n. 0 < n) }
@@ -146,16 +147,16 @@ impl Reader {
         let count = solid_run(piece);
         if count < piece.len() && self.word.is_empty() {
             self.take_word(&piece[..count])?;
-        } else {
-            self.hold(&piece[..count])?;
+            return Ok(count + 1);
         }
+        self.hold(&piece[..count])?;
         Ok(count)
     }
 
     // Takes the number that a piece begins with, or what else it begins with, and says how many bytes it took.
     #[inline(always)]
-    fn step_number(&mut self, more: u32, piece: &[u8]) -> Result<usize, Stop>
-        requires stage { self.old.parser.stage ≡ Stage.Numbers more }
+    fn step_number(&mut self, piece: &[u8]) -> Result<usize, DataFault>
+        requires awaited { awaits_number self.old.parser.stage ≡ true }
         requires empty { self.old.word.items ≡ [] }
         requires some { 0 < length piece.now }
         requires solid { is_blank (slice_index piece.now 0) ≡ false }
@@ -167,13 +168,13 @@ impl Reader {
         let Some((x, count)) = front_number(piece) else {
             return self.step_word(piece);
         };
-        self.pass_number(more, x, count)?;
-        Ok(count)
+        self.pass_number(x, count)?;
+        Ok(count + 1)
     }
 
     // Takes what a piece begins with where it begins with no blank, and says how many bytes it took.
     #[inline(always)]
-    fn step_solid(&mut self, piece: &[u8]) -> Result<usize, Stop>
+    fn step_solid(&mut self, piece: &[u8]) -> Result<usize, DataFault>
         requires some { 0 < length piece.now }
         requires solid { is_blank (slice_index piece.now 0) ≡ false }
         ensures moves { IfOk result (λ n. 0 < n) }
@@ -181,18 +182,16 @@ impl Reader {
         ensures at { IfOk result (λ n. self.new.at ≡ self.old.at + n) }
         ensures step { (end : ℕ) (bytes : List ℕ) → GoesOn result (continued self.old end (piece.now ++ bytes)) (λ n. continued self.new end (drop n piece.now ++ bytes)) }
     {
-        if !self.word.is_empty() {
-            return self.step_word(piece);
-        }
-        match self.parser.stage {
-            Stage::Numbers(more) => self.step_number(more, piece),
-            _ => self.step_word(piece),
+        if self.word.is_empty() && self.parser.awaits_number() {
+            self.step_number(piece)
+        } else {
+            self.step_word(piece)
         }
     }
 
     // Takes some bytes from the front of a piece, and says how many.
     #[inline(always)]
-    fn step(&mut self, piece: &[u8]) -> Result<usize, Stop>
+    fn step(&mut self, piece: &[u8]) -> Result<usize, DataFault>
         requires { 0 < length piece.now }
         ensures moves { IfOk result (λ n. 0 < n) }
         ensures within { IfOk result (λ n. n ≤ length piece.now) }
@@ -207,7 +206,7 @@ impl Reader {
     }
 
     /// Takes the next piece of the data.
-    pub fn feed(&mut self, piece: &[u8]) -> Result<(), Stop>
+    pub fn feed(&mut self, piece: &[u8]) -> Result<(), DataFault>
         ensures step { (end : ℕ) (bytes : List ℕ) → GoesOn result (continued self.old end (piece.now ++ bytes)) (λ _. continued self.new end bytes) }
         ensures at { OnOk result (self.new.at ≡ self.old.at + length piece.now) }
     {
@@ -219,7 +218,7 @@ impl Reader {
     }
 
     /// The sections, where the data ends here.
-    pub fn finish(mut self) -> Result<Sections, Stop>
+    pub fn finish(mut self) -> Result<Sections, DataFault>
         ensures { Gives (λ s. map section_of s) result (continued self self.at []) }
     {
         self.end_word()?;

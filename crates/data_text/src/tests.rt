@@ -12,135 +12,195 @@ fn file(alloc: Global, content: &[u8]) -> Result<Vec<(String, Vec<u8>)>, AllocEr
     Ok(files)
 }
 
-// Whether the answer is one list of this name with these numbers, or NotBuilt where none are given.
-fn is_as_wanted(answer: &Result<Sections, DataFault>, name: &[u8], want: Option<&[i64]>) -> bool {
-    match (answer, want) {
-        (Ok(sections), Some(numbers)) => {
-            sections.len() == 1
-                && sections.find(name) == Some(0)
-                && has_numbers(&sections.at(0).value, numbers)
+// What an answer is, as text: the lines of the sections without the last line feed, or the fault.
+fn told(alloc: Global, answer: Result<Sections, DataFault>) -> Result<Vec<u8>, AllocError> {
+    match answer {
+        Err(fault) => Ok(format!(in alloc; "{fault}")?.into_bytes()),
+        Ok(sections) => {
+            let mut sink = MemSink::new(alloc, 2_000, Vec::new(alloc))?;
+            let mut outlet = Outlet::new();
+            for i in 0..sections.len() {
+                let _given = write_value(sections.at(i), &mut outlet, &mut sink);
+            }
+            let _whole = outlet.finish(&mut sink);
+            let text = sink.bytes();
+            text.strip_suffix(b"\n").unwrap_or(text).to_vec(alloc)
         }
-        (Err(fault), None) => *fault == DataFault::NotBuilt,
-        _ => false,
     }
 }
 
-fn has_numbers(value: &Value, numbers: &[i64]) -> bool {
-    let Value::List(list) = value else {
-        return false;
-    };
-    if u64::from(list.len()) != numbers.len() as u64 {
-        return false;
-    }
-    for i in 0..list.len() {
-        if list.at(i).at(0) != i128::from(numbers[i as usize]) {
-            return false;
-        }
-    }
-    true
-}
-
-// Reads the content over each kind of shelf, in pieces of 1, 2 and 4,096 bytes.
-fn all_are_as_wanted(
-    alloc: Global,
-    content: &[u8],
-    name: &[u8],
-    want: Option<&[i64]>,
-) -> Result<bool, AllocError> {
+// Whether the content is answered by this text over each kind of shelf, however it is cut: in pieces of one byte each,
+// and of so many that a piece ends at a fault, before it or behind it.
+fn all_are(alloc: Global, content: &[u8], want: &str) -> Result<bool, AllocError> {
     let mut sure = SureShelf::new(alloc, file(alloc, content)?);
-    let mut good = is_as_wanted(&read_data(alloc, &mut sure, "d"), name, want);
-    for piece in [1, 2, 4096] {
+    let mut good = told(alloc, read_data(alloc, &mut sure, "d"))?.as_slice() == want.as_bytes();
+    for piece in [1, 2, 3, 5, 7, 8, 9, 11, 13, 4096] {
         let mut shelf = MemShelf::new(alloc, file(alloc, content)?, piece, Vec::new(alloc))?;
-        good = good && is_as_wanted(&read_data(alloc, &mut shelf, "d"), name, want);
+        good = good
+            && told(alloc, read_data(alloc, &mut shelf, "d"))?.as_slice() == want.as_bytes();
     }
     Ok(good)
 }
 
+// Data, and what it comes to, without the line feed at the end. Other lines are comments.
+const ROWS: &str = "\
+; what is well formed, of each kind
+v value -3 = v value -3
+x list 5 1 2 3 4 5 = x list 5 1 2 3 4 5
+x list 0 = x list 0
+a_1Z list 1 -0 = a_1Z list 1 0
+a matrix 2 3 1 2 3 4 5 6 = a matrix 2 3 1 2 3 4 5 6
+t tree 5 N 1 L 2 N 3 L 4 L 5 = t tree 5 N 1 L 2 N 3 L 4 L 5
+t tree 1 L -9 = t tree 1 L -9
+r rose 4 1 2 2 0 3 01 4 0 = r rose 4 1 2 2 0 3 1 4 0
+x list 2 9223372036854775807 -9223372036854775808 = x list 2 9223372036854775807 -9223372036854775808
+x list 0000000000000000000000000000000000000001 -000000000000000000000000000000000000005 = x list 1 -5
+abcdefghijklmnopqrstuvwxyzABCDEF list 1 3 = abcdefghijklmnopqrstuvwxyzABCDEF list 1 3
+; names and kinds
+1x list 0 = byte 0: bad word
+_ list 0 = byte 0: bad word
+x list 1 5 6 = byte 11: bad word
+abcdefghijklmnopqrstuvwxyzABCDEFG list 0 = byte 0: bad word
+x list 0 x list 0 = byte 9: name used twice
+x lust 0 = byte 2: unknown kind
+t t = byte 2: unknown kind
+; numbers and counts
+x list 1 9223372036854775808 = byte 9: bad number
+x list 1 -9223372036854775809 = byte 9: bad number
+x list 1 99999999999999999999999999999999999999 = byte 9: bad number
+x list 1 +1 = byte 9: bad number
+x list 1 - = byte 9: bad number
+x list 1 --1 = byte 9: bad number
+x list -0 = byte 7: bad number
+v value L = byte 8: bad number
+x list 4294967296 = byte 7: too many
+x list 99999999999999999999999999999999999999 = byte 7: too many
+x list 4294967295 1 = byte 19: short
+x matrix 4294967296 0 = byte 9: too many
+x matrix 65536 65536 = byte 15: too many
+x matrix 65535 65537 = byte 20: short
+t tree 4294967296 = byte 7: too many
+r rose 2147483648 = byte 7: too many
+r rose 2147483647 = byte 17: short
+; words of more than 40 bytes
+x list 1 00000000000000000000000000000000000000001 = byte 9: long word
+x list 1 -0000000000000000000000000000000000000001 = byte 9: long word
+t tree 3 L 1 Q2345678901234567890123456789012345678901 = byte 13: long word
+; shapes
+x matrix 0 4294967296 = byte 9: wrong shape
+x matrix 2 0 = byte 11: wrong shape
+t tree 0 = byte 7: wrong shape
+r rose 0 = byte 7: wrong shape
+t tree 3 N 1 L 2 = byte 16: short
+t tree 3 L 1 L 2 L 3 = byte 13: wrong shape
+t tree 3 L 1 Q 2 = byte 13: wrong shape
+t tree 3 N 1 Q 2 = byte 13: bad word
+t tree 2 N 1 L 2 = byte 9: wrong shape
+t tree 3 N 1 N 2 L 3 = byte 13: wrong shape
+r rose 2 1 0 zz = byte 13: wrong shape
+r rose 2 1 1 zz = byte 13: bad number
+r rose 2 1 2 5 0 = byte 11: wrong shape
+r rose 2 1 99999999999999999999999999 = byte 11: wrong shape
+r rose 2 1 -1 = byte 11: bad number
+; what ends too early
+x = byte 1: short
+x list = byte 6: short
+x matrix 2 = byte 10: short
+t tree 1 L = byte 10: short
+r rose 1 5 = byte 10: short";
+
 #[test]
-fn a_list_is_read_however_its_bytes_are_cut(rt: HostRuntime) -> Result<(), Fail> {
+fn data_is_read_or_refused_at_its_first_fault_however_it_is_cut(
+    rt: HostRuntime,
+) -> Result<(), Fail> {
     let alloc = rt.alloc();
-    let rows: [(&str, &str, &[i64]); 7] = [
-        ("x list 5 1 2 3 4 5", "x", &[1, 2, 3, 4, 5]),
-        ("x list 0", "x", &[]),
-        ("\n\tx \r list\n2   -7\t007\n", "x", &[-7, 7]),
-        ("a_1Z list 1 -0", "a_1Z", &[0]),
-        (
-            "x list 2 9223372036854775807 -9223372036854775808",
-            "x",
-            &[i64::MAX, i64::MIN],
-        ),
-        (
-            "x list 0000000000000000000000000000000000000001 -000000000000000000000000000000000000005",
-            "x",
-            &[-5],
-        ),
-        (
-            "abcdefghijklmnopqrstuvwxyzABCDEF list 1 3",
-            "abcdefghijklmnopqrstuvwxyzABCDEF",
-            &[3],
-        ),
-    ];
-    for (content, name, numbers) in rows {
-        let good = all_are_as_wanted(alloc, content.as_bytes(), name.as_bytes(), Some(numbers))?;
+    let mut count = 0u64;
+    for row in ROWS.lines() {
+        let Some((content, want)) = row.split_once(" = ") else {
+            continue;
+        };
+        count = count.saturating_add(1);
+        let good = all_are(alloc, content.as_bytes(), want)?;
         assert!(rt; good, "{content}");
     }
+    assert_eq!(rt; count, 58);
     Ok(())
 }
 
 #[test]
-fn other_content_is_no_list(rt: HostRuntime) -> Result<(), Fail> {
+fn blanks_of_each_kind_stand_between_words(rt: HostRuntime) -> Result<(), Fail> {
     let alloc = rt.alloc();
-    for content in [
-        "",
-        " ",
-        "x",
-        "x list",
-        "x list 1",
-        "x list 2 5",
-        "x list 1 5 6",
-        "x list 1 5 y",
-        "x list 1 5 y list 0",
-        "x list 1 9223372036854775808",
-        "x list 1 -9223372036854775809",
-        "x list 1 99999999999999999999999999999999999999",
-        "x list 1 12345678901234567890",
-        "x list 1 +1",
-        "x list 1 -",
-        "x list 1 --1",
-        "x list 1 1a",
-        "x list -0",
-        "x list 4294967296",
-        "x list 4294967295 1",
-        "x list 1 00000000000000000000000000000000000000001",
-        "x list 1 -0000000000000000000000000000000000000001",
-        "x lists 0",
-        "x lis 0",
-        "x value 1",
-        "x matrix 1 1 5",
-        "1x list 0",
-        "_ list 0",
-        "x- list 0",
-        "abcdefghijklmnopqrstuvwxyzABCDEFG list 0",
-        "x list\u{b}0",
+    for (content, want) in [
+        ("", ""),
+        (" \n", ""),
+        ("\n\tx \r list\n2   -7\t007\n", "x list 2 -7 7"),
+        (
+            "x list 1 5 t tree 1 L 7 y list 0 r rose 1 8 0 m matrix 1 1 9 u tree 3 N 1 L 2 L 3 v value 4",
+            "x list 1 5\nt tree 1 L 7\ny list 0\nr rose 1 8 0\nm matrix 1 1 9\nu tree 3 N 1 L 2 L 3\nv value 4",
+        ),
+        ("x list\u{b}0", "byte 2: unknown kind"),
+        ("x list 1 \n", "byte 10: short"),
     ] {
-        let good = all_are_as_wanted(alloc, content.as_bytes(), b"x", None)?;
+        let good = all_are(alloc, content.as_bytes(), want)?;
         assert!(rt; good, "{content}");
     }
     Ok(())
 }
 
-#[test]
-fn a_gap_has_65_536_blanks_at_most(rt: HostRuntime) -> Result<(), Fail> {
-    let alloc = rt.alloc();
-    for (blanks, want) in [(65_536, Some([4i64].as_slice())), (65_537, None)] {
-        let mut content = b"x list 1".to_vec(alloc)?;
-        for _ in 0..blanks {
-            content.push(b' ')?;
-        }
-        content.push(b'4')?;
-        let good = all_are_as_wanted(alloc, &content, b"x", want)?;
-        assert!(rt; good, "{blanks} blanks");
+// So many sections, and then this text.
+fn sections_then(alloc: Global, count: u8, last: &str) -> Result<Vec<u8>, AllocError> {
+    let mut content = Vec::new(alloc);
+    for i in 0..count {
+        content.extend_from_slice(&[b'a' + i % 26, b'0' + i / 26])?;
+        content.extend_from_slice(b" list 0 ")?;
     }
+    content.extend_from_slice(last.as_bytes())?;
+    Ok(content)
+}
+
+// So many blanks between two texts.
+fn gap(alloc: Global, before: &str, blanks: usize, after: &str) -> Result<Vec<u8>, AllocError> {
+    let mut content = before.as_bytes().to_vec(alloc)?;
+    content.extend_from_slice(&vec![in alloc; b' '; blanks]?)?;
+    content.extend_from_slice(after.as_bytes())?;
+    Ok(content)
+}
+
+#[test]
+fn sections_and_blanks_are_counted(rt: HostRuntime) -> Result<(), Fail> {
+    let alloc = rt.alloc();
+    for (content, want) in [
+        (
+            sections_then(alloc, 64, "b3 list 0")?,
+            "byte 640: too many sections",
+        ),
+        (
+            sections_then(alloc, 64, "a0 list 0")?,
+            "byte 640: too many sections",
+        ),
+        (sections_then(alloc, 64, "- list 0")?, "byte 640: bad word"),
+        (
+            sections_then(alloc, 63, "a0 list 0")?,
+            "byte 630: name used twice",
+        ),
+        (gap(alloc, "", 65_536, "v value 1")?, "v value 1"),
+        (gap(alloc, "v value ", 65_535, "1")?, "v value 1"),
+        (gap(alloc, "v value 1", 65_536, "")?, "v value 1"),
+        (gap(alloc, "", 65_537, "v value 1")?, "byte 65536: long gap"),
+        (gap(alloc, "v value ", 65_536, "1")?, "byte 65543: long gap"),
+        (gap(alloc, "v value 1", 65_537, "")?, "byte 65545: long gap"),
+        (gap(alloc, "x list 1 ", 65_536, "")?, "byte 65544: long gap"),
+    ] {
+        let good = all_are(alloc, &content, want)?;
+        assert!(rt; good, "{want}");
+    }
+    let many = sections_then(alloc, 64, "")?;
+    let lines = sections_then(alloc, 64, "")?.len();
+    let mut shelf = MemShelf::new(alloc, file(alloc, &many)?, 7, Vec::new(alloc))?;
+    assert_eq!(rt;
+        told(alloc, read_data(alloc, &mut shelf, "d"))?.len(),
+        lines.saturating_sub(1)
+    );
     Ok(())
 }
 
@@ -156,7 +216,7 @@ fn a_failing_shelf_is_told_from_bad_data(rt: HostRuntime) -> Result<(), Fail> {
         ("x list 1 5", "d", [11, 99], Some(DataFault::Read)),
         ("x list 1 5", "d", [12, 13], None),
         ("x list 1 a 5", "d", [11, 99], Some(DataFault::Read)),
-        ("x list 1 a 5", "d", [12, 13], Some(DataFault::NotBuilt)),
+        ("x list 1 a 5", "d", [12, 13], Some(DataFault::BadNumber(9))),
     ] {
         let files = file(alloc, content.as_bytes())?;
         let mut shelf = MemShelf::new(alloc, files, 1, fails.to_vec(alloc)?)?;

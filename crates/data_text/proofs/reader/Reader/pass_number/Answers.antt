@@ -3,19 +3,18 @@ use Rattle.std.proofs.lemmas.Int.{to_z-of_z}
 use Rattle.std.proofs.lemmas.Result.{err_from_is_err_and}
 use Rattle.data_text.specs.Words.{word, items_from}
 use Rattle.data_text.specs.Continued.{continued}
-use Rattle.data_text.proofs.ParserLemmas.{number_word}
-use Rattle.data_text.proofs.ReaderLemmas.{no_word, whole_word_as}
+use Rattle.data_text.proofs.ReaderLemmas.{blank_after, whole_word_as}
 use Rattle.data_text.proofs.reader.Reader.pass_number.Goals as goal
 
-pub returns-in_err-put_number-clause-step : goal.returns-in_err-put_number-clause-step
+pub returns-in_err-put-clause-step : goal.returns-in_err-put-clause-step
 unfolding continued
-returns-in_err-put_number-clause-step c = λ end b text bytes w blank.
+returns-in_err-put-clause-step c = λ end b text bytes w blank.
     let p = err_from_is_err_and c.from_residual.result c.from_residual.ensures.1 in
     let r = c.args.self.now in
     let same : to_z w64 (of_z w64 c.args.x) ≡ c.args.x = grind (arith, to_z-of_z) in
     let items = items_from (r.at + c.args.count) 0 (b ∷ bytes) in
     rw (p.1, p.2, c.requires.empty, whole_word_as r.parser text bytes r.at r.gap end b c.args.count w.long w.solid w.some blank)
-    (c.in_err-put_number.ensures.step end (word r.at text ∷ items) items (number_word end r.at text items (to_z w64 (of_z w64 c.args.x)) (omega (arith, w.long)) (rw same w.value)))
+    (c.in_err-put.ensures.step end text items (omega (arith, w.long)) (rw same w.value))
 
 pub returns-clause-step : goal.returns-clause-step
 unfolding continued
@@ -25,5 +24,5 @@ returns-clause-step c = λ end b text bytes w blank.
     let after = r.at + c.args.count in
     let items = items_from after 0 (b ∷ bytes) in
     rw c.requires.empty (whole_word_as r.parser text bytes r.at r.gap end b c.args.count w.long w.solid w.some blank
-    ∙ c.in_ok-put_number.ensures.step end (word r.at text ∷ items) items (number_word end r.at text items (to_z w64 (of_z w64 c.args.x)) (omega (arith, w.long)) (rw same w.value))
-    ∙ sym (no_word c.put_number.new.self after 0 end (b ∷ bytes)))
+    ∙ c.in_ok-put.ensures.step end text items (omega (arith, w.long)) (rw same w.value)
+    ∙ blank_after c.put.new.self after (r.at + (c.args.count + 1)) end b bytes (omega arith) blank)

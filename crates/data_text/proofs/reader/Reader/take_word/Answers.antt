@@ -1,9 +1,9 @@
 use Rattle.std.proofs.Common.{◌≡◌, ◌∙◌, ◌+◌, ◌-◌, ℕ, [], ◌∷◌, Err, length, ap, sym, refl, arith}
-use Rattle.data_text.specs.declared.fault.FormFault.TheVariants as fault
+use Rattle.data_text.specs.declared.data_fault.DataFault.TheVariants as fault
 use Rattle.std.proofs.lemmas.Result.{err_from_is_err_and}
 use Rattle.data_text.specs.Words.{items_from}
 use Rattle.data_text.specs.Continued.{continued}
-use Rattle.data_text.proofs.ReaderLemmas.{no_word, whole_word, word_faults}
+use Rattle.data_text.proofs.ReaderLemmas.{blank_after, whole_word, word_faults}
 use Rattle.data_text.proofs.reader.Reader.take_word.Goals as goal
 
 pub returns-then-text-gt-LONGEST_WORD-clause-step : goal.returns-then-text-gt-LONGEST_WORD-clause-step
@@ -27,4 +27,4 @@ returns-clause-step c = λ end b bytes blank.
     let r = c.args.self.now in
     let after = r.at + length c.args.text.now in
     rw c.requires.empty (whole_word r.parser c.args.text.now bytes r.at r.gap end b c.requires.solid c.requires.some blank
-    ∙ c.in_ok-take.ensures.step end (items_from after 0 (b ∷ bytes)) ∙ sym (no_word c.take.new.self after 0 end (b ∷ bytes)))
+    ∙ c.in_ok-take.ensures.step end (items_from after 0 (b ∷ bytes)) ∙ blank_after c.take.new.self after (r.at + (length c.args.text.now + 1)) end b bytes (omega arith) blank)
