@@ -1,7 +1,9 @@
 -- Worked examples of lines and words.
 use Rattle.std.proofs.Common.{◌≡◌, ℕ, List, [], ◌∷◌, ◌++◌, refl, sym, ap, ◌∙◌, true, get_or, lit≤}
 use Rattle.std.specs.Prelude.{codes, bytes_eq}
-use Rattle.script_lang.specs.Script.{Names, IsSumScript}
+use Rattle.op_catalog.specs.declared.list_op.ListOp.{ListOp}
+use Rattle.op_catalog.specs.declared.list_op.ListOp.TheVariants.{Add}
+use Rattle.script_lang.specs.Script.{Reduction, IsReduceScript}
 use Rattle.script_lang.specs.Lines.{Token, lines_of, tokens_from, sources_of}
 
 abbrev at : ℕ → List ℕ → Token
@@ -33,38 +35,38 @@ numbers : sources_of (codes "; (no\n\n  ;print x\nprint r ;\n" ++ 32 ∷ 9 ∷ 1
 unfolding tokens_from
 numbers = refl
 
-abbrev named : List ℕ → List ℕ → Names
-named input result = record { input = input; result = result }
+abbrev reducing : List ℕ → ListOp → List ℕ → Reduction
+reducing input op result = record { input = input; op = op; result = result }
 
 -- no word is reserved, and a script needs no line feed at its end
-sum_of_input : IsSumScript (codes "; the sum\ninput input list\n\nlet list = reduce add input\n print list") (named (codes "input") (codes "list"))
+reduced_input : IsReduceScript (codes "; the sum\ninput input list\n\nlet list = reduce add input\n print list") (reducing (codes "input") Add (codes "list"))
 unfolding tokens_from
-sum_of_input = record {
+reduced_input = record {
   short = lit≤ tt;
-  lines = record { words = refl; two_names = record { first = refl; second = refl; differ = λ e. let same : bytes_eq (codes "input") (codes "list") ≡ true = ap (λ (name : List ℕ). bytes_eq name (codes "list")) e in cc } };
+  lines = record { words = refl; two_names = record { first = refl; second = refl; differ = λ e. let same : bytes_eq (codes "input") (codes "list") ≡ true = ap (λ (name : List ℕ). bytes_eq name (codes "list")) e in cc }; operator = record { takes = refl; unit = refl } };
 }
 
 -- a fourth line is one too many
-fourth_line : (names : Names) → IsSumScript (codes "input x list\nlet r = reduce add x\nprint r\nprint x") names → ⊥
+fourth_line : (r : Reduction) → IsReduceScript (codes "input x list\nlet r = reduce add x\nprint r\nprint x") r → ⊥
 unfolding tokens_from
-fourth_line names h = let words = h.lines.words in cc
+fourth_line r h = let words = h.lines.words in cc
 
 -- a word of a line
 abbrev word_at : ℕ → ℕ → List (List (List ℕ)) → List ℕ
 word_at line word lines = get_or (get_or lines line []) word []
 
--- what is printed is the sum
-other_name : (names : Names) → IsSumScript (codes "input x list\nlet r = reduce add x\nprint x") names → ⊥
+-- what is printed is the result
+other_name : (r : Reduction) → IsReduceScript (codes "input x list\nlet r = reduce add x\nprint x") r → ⊥
 unfolding tokens_from
-other_name names h =
-    let bound : codes "r" ≡ names.result = ap (word_at 1 1) h.lines.words in
-    let printed : codes "x" ≡ names.result = ap (word_at 2 1) h.lines.words in
+other_name r h =
+    let bound : codes "r" ≡ r.result = ap (word_at 1 1) h.lines.words in
+    let printed : codes "x" ≡ r.result = ap (word_at 2 1) h.lines.words in
     let same : bytes_eq (codes "r") (codes "x") ≡ true = ap (λ (name : List ℕ). bytes_eq name (codes "x")) (bound ∙ sym printed) in cc
 
--- the sum has a name of its own
-one_name : (names : Names) → IsSumScript (codes "input x list\nlet x = reduce add x\nprint x") names → ⊥
+-- the result has a name of its own
+one_name : (r : Reduction) → IsReduceScript (codes "input x list\nlet x = reduce add x\nprint x") r → ⊥
 unfolding tokens_from
-one_name names h =
-    let input : codes "x" ≡ names.input = ap (word_at 0 1) h.lines.words in
-    let bound : codes "x" ≡ names.result = ap (word_at 1 1) h.lines.words in
+one_name r h =
+    let input : codes "x" ≡ r.input = ap (word_at 0 1) h.lines.words in
+    let bound : codes "x" ≡ r.result = ap (word_at 1 1) h.lines.words in
     h.lines.two_names.differ (sym input ∙ bound)

@@ -8,8 +8,8 @@ use thiserror::Error;
 /// Why bytes are no script.
 #[derive(Clone, Copy, Debug, PartialEq, Eq, Error)]
 pub enum ScriptFault {
-    /// The script has another form than the three lines that add up a list, or is too long.
-    #[error("no script that adds up a list")]
+    /// The script has another form than the three lines that reduce a list, or is too long.
+    #[error("no script that reduces a list")]
     NotBuilt,
     /// Memory ran out.
     #[error("out of memory")]

@@ -1,14 +1,18 @@
-//! The form of the lines that add up a list.
-ghost use Rattle.std.specs.Prelude.{◌≡◌, ◌↔◌, ℕ, List, IfSome, IsSomeAnd, IsTrue};
-ghost use Rattle.script_lang.specs.Script.{Names, AreTwoNames, IsSumForm, texts, input_line, sum_line, print_line};
+//! The form of the lines that reduce a list.
+ghost use Rattle.std.specs.Prelude.{◌≡◌, ◌↔◌, ℕ, List, Some, IfSome, IsSomeAnd, IsTrue};
+ghost use Rattle.op_catalog.specs.declared.list_op.ListOp.{ListOp as Operator};
+ghost use Rattle.script_lang.specs.Script.{Reduction, AreTwoNames, ReducesNumbers, IsReduceForm, texts, input_line, reduce_line, print_line};
 
 use crate::source::SourceLine;
 use data_text::is_name;
+use op_catalog::ListOp;
+use op_laws::{ElemType, Width};
 
-/// The two names of a script that adds up a list.
+/// The names of a script that reduces a list, and its operator.
 #[derive(Clone, Copy)]
 pub(crate) struct Found<'a> {
     pub(crate) input: &'a [u8],
+    pub(crate) op: ListOp,
     pub(crate) result: &'a [u8],
 }
 
@@ -42,19 +46,24 @@ fn printed_name<'a>(line: &SourceLine<'a>) -> Option<&'a [u8]>
     }
 }
 
-// Whether a line is `let B = reduce add A`.
-fn is_sum_line(line: &SourceLine<'_>, input: &[u8], result_name: &[u8]) -> bool
-    ensures { IsTrue result ↔ (texts line.now ≡ sum_line input.now result_name.now) }
+// OP in `let B = reduce OP A`.
+fn operator_of(line: &SourceLine<'_>, input: &[u8], result_name: &[u8]) -> Option<ListOp>
+    ensures found { IfSome result (λ op. texts line.now ≡ reduce_line (record { input = input.now; op = op; result = result_name.now })) }
+    ensures only { (op : Operator) → texts line.now ≡ reduce_line (record { input = input.now; op = op; result = result_name.now }) → result ≡ Some op }
 {
     let [keyword, bound, equals, skeleton, operator, argument] = line.words() else {
-        return false;
+        return None;
     };
-    keyword.is(b"let")
+    if keyword.is(b"let")
         && bound.is(result_name)
         && equals.is(b"=")
         && skeleton.is(b"reduce")
-        && operator.is(b"add")
         && argument.is(input)
+    {
+        ListOp::of_name(operator.text())
+    } else {
+        None
+    }
 }
 
 fn are_two_names(a: &[u8], b: &[u8]) -> bool
@@ -63,21 +72,28 @@ fn are_two_names(a: &[u8], b: &[u8]) -> bool
     is_name(a) && is_name(b) && a != b
 }
 
-/// The names of lines that add up a list.
-pub(crate) fn names_of<'a>(lines: &[SourceLine<'a>]) -> Option<Found<'a>>
-    ensures found { IfSome result (λ f. IsSumForm lines.now (record { input = f.input.now; result = f.result.now })) }
-    ensures only { (names : Names) → IsSumForm lines.now names → IsSomeAnd result (λ f. record { input = f.input.now; result = f.result.now } ≡ names) }
+fn reduces_numbers(op: ListOp) -> bool
+    ensures { IsTrue result ↔ ReducesNumbers op }
+{
+    op.typed(ElemType::one(Width::W64)).is_ok() && op.has_unit()
+}
+
+/// What lines that reduce a list say.
+pub(crate) fn reduction_of<'a>(lines: &[SourceLine<'a>]) -> Option<Found<'a>>
+    ensures found { IfSome result (λ f. IsReduceForm lines.now (record { input = f.input.now; op = f.op; result = f.result.now })) }
+    ensures only { (r : Reduction) → IsReduceForm lines.now r → IsSomeAnd result (λ f. record { input = f.input.now; op = f.op; result = f.result.now } ≡ r) }
 {
     let [first, second, third] = lines else {
         return None;
     };
     let input = input_name(first)?;
     let result = printed_name(third)?;
-    if !is_sum_line(second, input, result) {
-        return None;
-    }
+    let op = operator_of(second, input, result)?;
     if !are_two_names(input, result) {
         return None;
     }
-    Some(Found { input, result })
+    if !reduces_numbers(op) {
+        return None;
+    }
+    Some(Found { input, op, result })
 }

@@ -1,4 +1,4 @@
-//! Scripts: three lines that add up a list.
+//! Scripts: three lines that reduce a list.
 #![tactic(auto)]
 
 mod fault;

@@ -1,26 +1,19 @@
 -- What a script and data in their forms have in common.
-use Rattle.std.proofs.Common.{◌≡◌, ℕ, ◌≤◌, List, [], ◌∷◌, length, take, map, Option, Some, None, IfSome, Bool, ap, refl, sym, ◌∙◌, subst, arith, ℤ, true, false}
-use Rattle.std.proofs.Common.{zero, suc, ◌<◌}
-use Rattle.std.specs.Prelude.{bytes_eq, if◌then◌else◌, slice_index_or}
-use Rattle.op_laws.specs.declared.width.Width.TheVariants.{W64}
+use Rattle.std.proofs.Common.{◌≡◌, ◌≢◌, ℕ, ◌≤◌, List, length, take, Option, Some, None, IfSome, Result, Ok, Err, IfOk, IfErr, ap, refl, sym, ◌∙◌, subst, arith, ℤ}
 use Rattle.std.proofs.lemmas.List.{length-take, take_all}
-use Rattle.std.proofs.lemmas.Slice.Eq.{bytes_eq-Decides}
-use Rattle.std.specs.Bool.{Decides}
-use Rattle.std.specs.List.{HoldsAt}
-use Rattle.op_laws.specs.Elements.{Elements, singles}
-use Rattle.data_text.specs.declared.value.Value.TheVariants as value
 use Rattle.data_text.specs.declared.value.Named.{Named}
-use Rattle.data_text.specs.Data.{Section, many}
-use Rattle.data_text.specs.Named.{first_of}
-use Rattle.data_text.specs.OneList.{IsOneList, one_list, IsReadFrom, IsNoList}
+use Rattle.data_text.specs.declared.data_fault.DataFault.{DataFault}
+use Rattle.data_text.specs.declared.data_fault.DataFault.TheVariants as fault
+use Rattle.data_text.specs.Data.{Section, sections_of}
 use Rattle.script_lang.specs.declared.fault.ScriptFault.{ScriptFault}
 use Rattle.script_lang.specs.declared.fault.ScriptFault.TheVariants as script_fault
-use Rattle.data_text.specs.declared.data_fault.DataFault.{DataFault}
-use Rattle.data_text.specs.declared.data_fault.DataFault.TheVariants as data_fault
-use Rattle.script_lang.specs.Script.{Names, IsSumScript}
+use Rattle.script_lang.specs.Script.{Reduction, IsReduceScript}
+use Rattle.sketo_run.specs.declared.stop.Stop.{Stop}
 use Rattle.sketo_run.specs.declared.stop.Stop.TheVariants as stop
 use Rattle.sketo_run.specs.Stops.{stop_of_script, stop_of_data}
-use Rattle.sketo_run.specs.Answer.{total, named_number, IsAnswer, HasNoAnswer}
+use Rattle.sketo_run.specs.Fit.{input_of}
+use Rattle.sketo_run.specs.Answer.{or_unfit, numbers_in, IsReduced, IsAnswer, IsNotBuilt}
+use Rattle.sketo_run.specs.Causes.{IsUnfit, IsOnlyReduction, IsCauseOf}
 
 -- of two contents that may be told
 pub both : (o p : Option (List ℕ)) (A B : List ℕ → Type 0) (P : List ℕ → List ℕ → Type 0) → IfSome o A → IfSome p B → ((s d : List ℕ) → A s → B d → P s d) → IfSome o (λ s. IfSome p (λ d. P s d))
@@ -39,104 +32,132 @@ pub one : (o : Option (List ℕ)) (A P : List ℕ → Type 0) → IfSome o A →
 one None A P a f = tt
 one (Some s) A P a f = f s a
 
-front_of : (s : List ℕ) (n : Names) → IsSumScript s n → IsSumScript (take 65537 s) n
-front_of s n h =
+front_of : (s : List ℕ) (r : Reduction) → IsReduceScript s r → IsReduceScript (take 65537 s) r
+front_of s r h =
     let le : length s ≤ 65537 = omega (arith, h.short) in
-    let P : List ℕ → Type 0 = λ t. IsSumScript t n in subst P (sym (take_all 65537 s le)) h
+    let P : List ℕ → Type 0 = λ t. IsReduceScript t r in subst P (sym (take_all 65537 s le)) h
 
-whole_of : (s : List ℕ) (n : Names) → IsSumScript (take 65537 s) n → IsSumScript s n
-whole_of s n h =
+whole_of : (s : List ℕ) (r : Reduction) → IsReduceScript (take 65537 s) r → IsReduceScript s r
+whole_of s r h =
     let le : length s ≤ 65537 = omega (arith, h.short, length-take 65537 s) in
-    let P : List ℕ → Type 0 = λ t. IsSumScript t n in subst P (take_all 65537 s le) h
+    let P : List ℕ → Type 0 = λ t. IsReduceScript t r in subst P (take_all 65537 s le) h
 
 -- the front of a script is in its form just where the script is
-pub whole_script : (s bytes : List ℕ) (n : Names) → bytes ≡ take 65537 s → IsSumScript bytes n → IsSumScript s n
-whole_script s bytes n e h = let P : List ℕ → Type 0 = λ t. IsSumScript t n in whole_of s n (subst P e h)
+pub whole_script : (s bytes : List ℕ) (r : Reduction) → bytes ≡ take 65537 s → IsReduceScript bytes r → IsReduceScript s r
+whole_script s bytes r e h = let P : List ℕ → Type 0 = λ t. IsReduceScript t r in whole_of s r (subst P e h)
 
-pub front_script : (s bytes : List ℕ) (n : Names) → bytes ≡ take 65537 s → IsSumScript s n → IsSumScript bytes n
-front_script s bytes n e h = let P : List ℕ → Type 0 = λ t. IsSumScript t n in subst P (sym e) (front_of s n h)
+front_script : (s bytes : List ℕ) (r : Reduction) → bytes ≡ take 65537 s → IsReduceScript s r → IsReduceScript bytes r
+front_script s bytes r e h = let P : List ℕ → Type 0 = λ t. IsReduceScript t r in subst P (sym e) (front_of s r h)
 
-pub no_script : (s d bytes : List ℕ) → bytes ≡ take 65537 s → ((n : Names) → IsSumScript bytes n → ⊥) → HasNoAnswer s d
-no_script s d bytes e never = λ a h. never h.names (front_script s bytes h.names e h.script_form)
+only_script : (s bytes : List ℕ) (r : Reduction) → bytes ≡ take 65537 s → IsOnlyReduction bytes r → IsOnlyReduction s r
+only_script s bytes r e only = λ other h. only other (front_script s bytes other e h)
 
-pub no_list : (s d : List ℕ) → IsNoList d → HasNoAnswer s d
-no_list s d never = λ a h. never h.names.input h.numbers h.input_form
+pub no_script : (s bytes : List ℕ) → bytes ≡ take 65537 s → ((r : Reduction) → IsReduceScript bytes r → ⊥) → IsNotBuilt s
+no_script s bytes e never = λ r h. never r (front_script s bytes r e h)
 
-firsts : (xs : List ℤ) → map first_of (singles xs) ≡ xs
-firsts [] = refl
-firsts (x ∷ xs) = ap (λ (l : List ℤ). x ∷ l) (firsts xs)
-
-only_list : (n : List ℕ) (xs : List ℤ) (v : Named) (list : Elements) → v ≡ record { name = n; value = value.List (record { ty = W64 ∷ []; items = singles xs }) }
-    → v.value ≡ value.List list → list.items ≡ singles xs
-only_list n xs v list e is =
-    let same : value.List list ≡ value.List (record { ty = W64 ∷ []; items = singles xs }) = sym is ∙ ap (λ (w : Named). w.value) e in
-    let lists : list ≡ record { ty = W64 ∷ []; items = singles xs } = cc in
-    ap (λ (l : Elements). l.items) lists
-
-found : (n name : List ℕ) (xs : List ℤ) (i : ℕ) (b : Bool) (v : Named) (list : Elements) (x : ℤ) → Decides b (n ≡ name) → i < 1 → HoldsAt (λ s. s.name ≡ name) (one_list n xs) i
-    → v ≡ slice_index_or (one_list n xs) i v → v.value ≡ value.List list → x ≡ total (map first_of list.items) → Some x ≡ (if b then Some (total xs) else None)
-found n name xs (suc i) b v list x test lt named at is sum = absurd (omega arith)
-found n name xs zero true v list x test lt named at is sum =
-    ap (λ (y : ℤ). Some y) (sum ∙ ap total (ap (map first_of) (only_list n xs v list at is) ∙ firsts xs))
-found n name xs zero false v list x test lt named at is sum = let e : false ≡ true = test.1 (named v) in cc
-
--- the sum of the one list, where it has the name
-pub found_sum : (sections : List Named) (n name : List ℕ) (xs : List ℤ) (i : ℕ) (v : Named) (list : Elements) (x : ℤ) → sections ≡ one_list n xs → i < length sections
-    → HoldsAt (λ s. s.name ≡ name) sections i → v ≡ slice_index_or sections i v → v.value ≡ value.List list → x ≡ total (map first_of list.items)
-    → Some x ≡ (if bytes_eq n name then Some (total xs) else None)
-found_sum sections n name xs i v list x e lt named at is sum =
-    let lt' : i < 1 = omega (arith, ap length e) in
-    let P : List Named → Type 0 = λ ss. HoldsAt (λ s. s.name ≡ name) ss i in
-    let Q : List Named → Type 0 = λ ss. v ≡ slice_index_or ss i v in
-    found n name xs i (bytes_eq n name) v list x (bytes_eq-Decides n name) lt' (subst P e named) (subst Q e at) is sum
-
-answered_at : (s d input result name : List ℕ) (xs : List ℤ) (x : ℤ) (b : Bool) → IsSumScript s (record { input = input; result = result }) → IsOneList d name xs → Decides b (name ≡ input)
-    → Some x ≡ (if b then Some (total xs) else None) → IsAnswer s d (named_number result x)
-answered_at s d input result name xs x false script list same sum = cc
-answered_at s d input result name xs x true script list same sum = record {
-  names = record { input = input; result = result };
-  numbers = xs;
-  script_form = script;
-  input_form = let P : List ℕ → Type 0 = λ n. IsOneList d n xs in subst P (same.0 refl) list;
-  sum = ap (named_number result) (let e : x ≡ total xs = cc in e);
+-- the numbers that were read are reduced
+pub answered : (s d bytes : List ℕ) (r : Reduction) (sections : List Section) (a : Named) → bytes ≡ take 65537 s → IsReduceScript bytes r → sections_of d ≡ Ok sections
+    → (numbers : List ℤ) × (input_of r sections ≡ Ok numbers) × IsReduced r numbers a → IsAnswer s d a
+answered s d bytes r sections a e script read h = record {
+  reduction = r;
+  numbers = h.0;
+  script_form = whole_script s bytes r e script;
+  data_form = ap (numbers_in r) read ∙ ap or_unfit h.1;
+  reduced = h.2;
 }
 
--- one text is one list, with one name
-one_name : (d name other : List ℕ) (xs ys : List ℤ) → IsOneList d name xs → IsOneList d other ys → name ≡ other
-one_name d name other xs ys a b =
-    let here : Section = record { name = name; content = many xs } in
-    let there : Section = record { name = other; content = many ys } in
-    let same : here ≡ there = cc in ap (λ (t : Section). t.name) same
+-- the sections that were read don't fit
+pub misfits : (s d bytes : List ℕ) (r : Reduction) (sections : List Section) (why : Stop) → bytes ≡ take 65537 s → IsReduceScript bytes r → IsOnlyReduction bytes r → sections_of d ≡ Ok sections
+    → IsUnfit r sections why → IsCauseOf why s d
+misfits s d bytes r sections stop.NoMemory e script only read h = tt
+misfits s d bytes r sections (stop.Unfit fault name) e script only read h =
+    (r, record { script_form = whole_script s bytes r e script; data_form = ap (numbers_in r) read ∙ ap or_unfit h.0 }, only_script s bytes r e only, h.1)
+misfits s d bytes r sections stop.ScriptUnread e script only read h = tt
+misfits s d bytes r sections stop.DataUnread e script only read h = tt
+misfits s d bytes r sections (stop.BadData fault) e script only read h = absurd h
+misfits s d bytes r sections stop.NotBuilt e script only read h = tt
 
-not_answered_at : (s d name : List ℕ) (names : Names) (xs : List ℤ) (b : Bool) → ((m : Names) → IsSumScript s m → m ≡ names) → IsOneList d name xs → Decides b (name ≡ names.input)
-    → None ≡ (if b then Some (total xs) else None) → HasNoAnswer s d
-not_answered_at s d name names xs true only list same none = cc
-not_answered_at s d name names xs false only list same none = λ a h.
-    let e : false ≡ true = same.1 (one_name d name h.names.input xs h.numbers list h.input_form ∙ ap (λ (m : Names). m.input) (only h.names h.script_form)) in cc
+-- what a script made of the sections that were read
+pub made : (result : Result Named Stop) (o p : Option (List ℕ)) (bytes text : List ℕ) (r : Reduction) (sections : List Section) → bytes ≡ text → IfSome o (λ s. text ≡ take 65537 s) → IsReduceScript bytes r
+    → IfSome p (λ d. sections_of d ≡ Ok sections) → IfOk result (λ a. (numbers : List ℤ) × (input_of r sections ≡ Ok numbers) × IsReduced r numbers a)
+    → IfOk result (λ a. IfSome o (λ s. IfSome p (λ d. IsAnswer s d a)))
+made (Err e) o p bytes text r sections same told script read h = tt
+made (Ok a) o p bytes text r sections same told script read h =
+    both o p (λ s. text ≡ take 65537 s) (λ d. sections_of d ≡ Ok sections) (λ s d. IsAnswer s d a) told read
+    (λ s d t e. answered s d bytes r sections a (same ∙ t) script e h)
 
--- the script's list was there
-pub answered : (s d bytes input result : List ℕ) (sections : List Named) (x : ℤ) → bytes ≡ take 65537 s → IsSumScript bytes (record { input = input; result = result }) → IsReadFrom d sections
-    → ((n : List ℕ) (xs : List ℤ) → sections ≡ one_list n xs → Some x ≡ (if bytes_eq n input then Some (total xs) else None)) → IsAnswer s d (named_number result x)
-answered s d bytes input result sections x e script read sum =
-    answered_at s d input result read.0 read.1 x (bytes_eq read.0 input) (whole_script s bytes (record { input = input; result = result }) e script) read.2 (bytes_eq-Decides read.0 input) (sum read.0 read.1 read.3)
+-- why it made nothing
+pub made_nothing : (result : Result Named Stop) (o p : Option (List ℕ)) (bytes text : List ℕ) (r : Reduction) (sections : List Section) → bytes ≡ text → IfSome o (λ s. text ≡ take 65537 s) → IsReduceScript bytes r
+    → IsOnlyReduction bytes r → IfSome p (λ d. sections_of d ≡ Ok sections) → IfErr result (IsUnfit r sections) → IfErr result (λ why. IfSome o (λ s. IfSome p (λ d. IsCauseOf why s d)))
+made_nothing (Ok a) o p bytes text r sections same told script only read h = tt
+made_nothing (Err why) o p bytes text r sections same told script only read h =
+    both o p (λ s. text ≡ take 65537 s) (λ d. sections_of d ≡ Ok sections) (IsCauseOf why) told read
+    (λ s d t e. misfits s d bytes r sections why (same ∙ t) script only e h)
 
--- it was not
-pub not_answered : (s d bytes : List ℕ) (names : Names) (sections : List Named) → bytes ≡ take 65537 s → ((m : Names) → IsSumScript bytes m → m ≡ names) → IsReadFrom d sections
-    → ((n : List ℕ) (xs : List ℤ) → sections ≡ one_list n xs → None ≡ (if bytes_eq n names.input then Some (total xs) else None)) → HasNoAnswer s d
-not_answered s d bytes names sections e only read none =
-    not_answered_at s d read.0 names read.1 (bytes_eq read.0 names.input) (λ m h. only m (front_script s bytes m e h)) read.2 (bytes_eq-Decides read.0 names.input) (none read.0 read.1 read.3)
+-- the data is at fault
+pub refused : (s d bytes : List ℕ) (r : Reduction) (f : DataFault) → bytes ≡ take 65537 s → IsReduceScript bytes r → IsOnlyReduction bytes r → (f ≢ fault.Read → f ≢ fault.Memory → sections_of d ≡ Err f)
+    → IsCauseOf (stop_of_data f) s d
+refused s d bytes r fault.Read e script only h = tt
+refused s d bytes r fault.Memory e script only h = tt
+refused s d bytes r (fault.BadWord at) e script only h =
+    (r, record { script_form = whole_script s bytes r e script; data_form = ap (numbers_in r) (h (λ same. cc) (λ same. cc)) }, only_script s bytes r e only)
+refused s d bytes r (fault.BadNumber at) e script only h =
+    (r, record { script_form = whole_script s bytes r e script; data_form = ap (numbers_in r) (h (λ same. cc) (λ same. cc)) }, only_script s bytes r e only)
+refused s d bytes r (fault.LongWord at) e script only h =
+    (r, record { script_form = whole_script s bytes r e script; data_form = ap (numbers_in r) (h (λ same. cc) (λ same. cc)) }, only_script s bytes r e only)
+refused s d bytes r (fault.LongGap at) e script only h =
+    (r, record { script_form = whole_script s bytes r e script; data_form = ap (numbers_in r) (h (λ same. cc) (λ same. cc)) }, only_script s bytes r e only)
+refused s d bytes r (fault.BadKind at) e script only h =
+    (r, record { script_form = whole_script s bytes r e script; data_form = ap (numbers_in r) (h (λ same. cc) (λ same. cc)) }, only_script s bytes r e only)
+refused s d bytes r (fault.TooMany at) e script only h =
+    (r, record { script_form = whole_script s bytes r e script; data_form = ap (numbers_in r) (h (λ same. cc) (λ same. cc)) }, only_script s bytes r e only)
+refused s d bytes r (fault.Short at) e script only h =
+    (r, record { script_form = whole_script s bytes r e script; data_form = ap (numbers_in r) (h (λ same. cc) (λ same. cc)) }, only_script s bytes r e only)
+refused s d bytes r (fault.Shape at) e script only h =
+    (r, record { script_form = whole_script s bytes r e script; data_form = ap (numbers_in r) (h (λ same. cc) (λ same. cc)) }, only_script s bytes r e only)
+refused s d bytes r (fault.Duplicate at) e script only h =
+    (r, record { script_form = whole_script s bytes r e script; data_form = ap (numbers_in r) (h (λ same. cc) (λ same. cc)) }, only_script s bytes r e only)
+refused s d bytes r (fault.TooManySections at) e script only h =
+    (r, record { script_form = whole_script s bytes r e script; data_form = ap (numbers_in r) (h (λ same. cc) (λ same. cc)) }, only_script s bytes r e only)
+
+-- the script is at fault
+pub unscripted : (s d : List ℕ) (f : ScriptFault) → IsCauseOf (stop_of_script f) s d
+unscripted s d script_fault.NotBuilt = tt
+unscripted s d script_fault.Memory = tt
 
 -- which fault of a layer below comes to a stop
 pub script_not_built : (f : ScriptFault) → stop_of_script f ≡ stop.NotBuilt → f ≡ script_fault.NotBuilt
 script_not_built script_fault.NotBuilt e = refl
 script_not_built script_fault.Memory e = cc
 
-pub data_not_built : (f : DataFault) → stop_of_data f ≡ stop.NotBuilt → f ≡ data_fault.NotBuilt
-data_not_built data_fault.NotBuilt e = refl
-data_not_built data_fault.Read e = cc
-data_not_built data_fault.Memory e = cc
+pub script_unread : (f : ScriptFault) → stop_of_script f ≡ stop.DataUnread → ⊥
+script_unread script_fault.NotBuilt e = cc
+script_unread script_fault.Memory e = cc
 
-pub data_unread : (f : DataFault) → stop_of_data f ≡ stop.DataUnread → f ≡ data_fault.Read
-data_unread data_fault.NotBuilt e = cc
-data_unread data_fault.Read e = refl
-data_unread data_fault.Memory e = cc
+pub data_built : (f : DataFault) → stop_of_data f ≡ stop.NotBuilt → ⊥
+data_built fault.Read e = cc
+data_built fault.Memory e = cc
+data_built (fault.BadWord at) e = cc
+data_built (fault.BadNumber at) e = cc
+data_built (fault.LongWord at) e = cc
+data_built (fault.LongGap at) e = cc
+data_built (fault.BadKind at) e = cc
+data_built (fault.TooMany at) e = cc
+data_built (fault.Short at) e = cc
+data_built (fault.Shape at) e = cc
+data_built (fault.Duplicate at) e = cc
+data_built (fault.TooManySections at) e = cc
+
+pub data_unread : (f : DataFault) → stop_of_data f ≡ stop.DataUnread → f ≡ fault.Read
+data_unread fault.Read e = refl
+data_unread fault.Memory e = cc
+data_unread (fault.BadWord at) e = cc
+data_unread (fault.BadNumber at) e = cc
+data_unread (fault.LongWord at) e = cc
+data_unread (fault.LongGap at) e = cc
+data_unread (fault.BadKind at) e = cc
+data_unread (fault.TooMany at) e = cc
+data_unread (fault.Short at) e = cc
+data_unread (fault.Shape at) e = cc
+data_unread (fault.Duplicate at) e = cc
+data_unread (fault.TooManySections at) e = cc

@@ -1,5 +1,5 @@
 pub mod FrontLemmas
-pub mod SumLemmas
+pub mod FitLemmas
 pub mod OutletLemmas
 pub mod AnswerLemmas
 pub mod EndLemmas

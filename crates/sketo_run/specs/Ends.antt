@@ -3,8 +3,10 @@ use Rattle.std.specs.Prelude.{◌≡◌, ◌≢◌, ℕ, ◌⊎◌, List, Option
 use Rattle.outside.specs.Outside.{Rose, Appends, AppendsFront}
 use Rattle.data_text.specs.declared.value.Named.{Named}
 use Rattle.data_text.specs.Printed.{text_of}
+use Rattle.script_lang.specs.Script.{Reduction}
 use Rattle.sketo_run.specs.Commands.{Files}
-use Rattle.sketo_run.specs.Answer.{IsAnswer, IsBuilt}
+use Rattle.sketo_run.specs.Report.{IsReported, data_line}
+use Rattle.sketo_run.specs.Answer.{IsAnswer, IsRefused, DataRefusal, IsBuilt}
 
 -- P of the contents of both files, where both are told
 abbrev pub WhereTold : (List ℕ → Option (List ℕ)) → Files → (List ℕ → List ℕ → Type 0) → Type 0
@@ -14,9 +16,9 @@ WhereTold content files P = IfSome (content files.script) (λ script. IfSome (co
 abbrev pub AreTold : (List ℕ → Option (List ℕ)) → Files → (List ℕ → List ℕ → Type 0) → Type 0
 AreTold content files P = IsSomeAnd (content files.script) (λ script. IsSomeAnd (content files.input) (λ input. P script input))
 
--- of a run: answered, a read failed, a write failed, memory was refused, or a form isn't built
+-- of a run: answered, the data is refused, a read failed, a write failed, memory was refused, or a form isn't built
 abbrev pub IsRunStatus : ℕ → Type 0
-IsRunStatus n = (n ≡ 0) ⊎ ((n ≡ 5) ⊎ ((n ≡ 6) ⊎ ((n ≡ 7) ⊎ (n ≡ 8))))
+IsRunStatus n = (n ≡ 0) ⊎ ((n ≡ 4) ⊎ ((n ≡ 5) ⊎ ((n ≡ 6) ⊎ ((n ≡ 7) ⊎ (n ≡ 8)))))
 
 -- those, and that the words are refused
 abbrev pub IsStatus : ℕ → Type 0
@@ -29,6 +31,11 @@ IsPrinted before after script input = (answer : Named) × IsAnswer script input 
 -- a front of the text of the answer went out
 abbrev pub IsPrintedInPart : Option (List ℕ) → Option (List ℕ) → List ℕ → List ℕ → Type 0
 IsPrintedInPart before after script input = (answer : Named) × IsAnswer script input answer × AppendsFront before after (text_of answer)
+
+-- the data is refused, and the line of this file tells why
+abbrev pub IsDataRefused : List ℕ → Option (List ℕ) → Option (List ℕ) → ℕ → ℕ → List ℕ → List ℕ → Type 0
+IsDataRefused file before after faults faults' script input =
+    (r : Reduction) × (refusal : DataRefusal) × IsRefused script input r refusal × IsReported (data_line file r refusal) before after faults faults'
 
 -- A file of the run couldn't be read: its count of faults rose. It is the data only after a script of the
 -- form that is built.

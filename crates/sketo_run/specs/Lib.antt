@@ -4,8 +4,10 @@ pub mod Words
 pub mod Seen
 pub mod OperandTexts
 pub mod Given
+pub mod Fit
 pub mod Answer
 pub mod Report
 pub mod Ends
 pub mod Stops
+pub mod Causes
 pub mod Statuses

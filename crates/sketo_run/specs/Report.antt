@@ -1,5 +1,11 @@
 -- Lines on error output.
-use Rattle.std.specs.Prelude.{ℕ, ◌⊎◌, List, ◌++◌, Option, codes}
+use Rattle.std.specs.Prelude.{ℕ, ◌⊎◌, List, [], ◌++◌, Option, codes, decimal}
+use Rattle.data_text.specs.declared.data_fault.DataFault.{DataFault}
+use Rattle.data_text.specs.declared.data_fault.DataFault.TheVariants.{BadWord, BadNumber, LongWord, LongGap, BadKind, TooMany, Short, Shape, Duplicate, TooManySections, Read, Memory}
+use Rattle.script_lang.specs.Script.{Reduction}
+use Rattle.sketo_run.specs.declared.inputs.FitFault.{FitFault}
+use Rattle.sketo_run.specs.declared.inputs.FitFault.TheVariants.{NotThere, WrongKind}
+use Rattle.sketo_run.specs.Answer.{DataRefusal, faulty, unfit}
 use Rattle.outside.specs.Outside.{Rose, Appends, AppendsFront}
 
 -- a read of this file failed
@@ -17,6 +23,59 @@ no_memory = codes "memory: none\n"
 -- a form that isn't built yet
 abbrev pub not_built : List ℕ
 not_built = codes "stage: not built\n"
+
+-- what is wrong at a byte of data
+abbrev pub fault_text : DataFault → List ℕ
+fault_text (BadWord at) = codes "bad word"
+fault_text (BadNumber at) = codes "bad number"
+fault_text (LongWord at) = codes "long word"
+fault_text (LongGap at) = codes "long gap"
+fault_text (BadKind at) = codes "unknown kind"
+fault_text (TooMany at) = codes "too many"
+fault_text (Short at) = codes "short"
+fault_text (Shape at) = codes "wrong shape"
+fault_text (Duplicate at) = codes "name used twice"
+fault_text (TooManySections at) = codes "too many sections"
+fault_text Read = []
+fault_text Memory = []
+
+-- that byte, counted from 0
+abbrev pub fault_byte : DataFault → ℕ
+fault_byte (BadWord at) = at
+fault_byte (BadNumber at) = at
+fault_byte (LongWord at) = at
+fault_byte (LongGap at) = at
+fault_byte (BadKind at) = at
+fault_byte (TooMany at) = at
+fault_byte (Short at) = at
+fault_byte (Shape at) = at
+fault_byte (Duplicate at) = at
+fault_byte (TooManySections at) = at
+fault_byte Read = 0
+fault_byte Memory = 0
+
+abbrev pub byte_line : List ℕ → List ℕ → List ℕ → List ℕ
+byte_line file byte text = codes "data: " ++ file ++ codes ": byte " ++ byte ++ codes ": " ++ text ++ codes "\n"
+
+-- data is at fault at a byte
+abbrev pub fault_line : List ℕ → DataFault → List ℕ
+fault_line file fault = byte_line file (decimal (fault_byte fault)) (fault_text fault)
+
+abbrev pub misfit_text : FitFault → List ℕ
+misfit_text (NotThere input) = codes "not there"
+misfit_text (WrongKind input) = codes "wrong kind"
+
+abbrev pub name_line : List ℕ → List ℕ → List ℕ → List ℕ
+name_line file name text = codes "data: " ++ file ++ codes ": " ++ name ++ codes ": " ++ text ++ codes "\n"
+
+-- data doesn't fit the input of this name
+abbrev pub misfit_line : List ℕ → List ℕ → FitFault → List ℕ
+misfit_line file name fault = name_line file name (misfit_text fault)
+
+-- data is refused
+abbrev pub data_line : List ℕ → Reduction → DataRefusal → List ℕ
+data_line file r (faulty fault) = fault_line file fault
+data_line file r (unfit fault) = misfit_line file r.input fault
 
 -- the line went out, or a front of it where the sink failed in this call
 abbrev pub IsReported : List ℕ → Option (List ℕ) → Option (List ℕ) → ℕ → ℕ → Type 0

@@ -9,21 +9,23 @@ use Rattle.sketo_run.specs.declared.stop.Stop.TheVariants as stop
 use Rattle.sketo_run.specs.declared.status.Status.{Status}
 use Rattle.sketo_run.specs.declared.status.Status.TheVariants as status
 use Rattle.sketo_run.specs.Commands.{Files}
-use Rattle.sketo_run.specs.Report.{read_failed, no_memory, not_built}
+use Rattle.sketo_run.specs.Report.{read_failed, no_memory, not_built, fault_line, misfit_line}
 
 abbrev pub stop_of_script : ScriptFault → Stop
 stop_of_script script_fault.NotBuilt = stop.NotBuilt
 stop_of_script script_fault.Memory = stop.NoMemory
 
 abbrev pub stop_of_data : DataFault → Stop
-stop_of_data data_fault.NotBuilt = stop.NotBuilt
 stop_of_data data_fault.Read = stop.DataUnread
 stop_of_data data_fault.Memory = stop.NoMemory
+stop_of_data fault = stop.BadData fault
 
 -- the status that tells of it
 abbrev pub status_of : Stop → Status
 status_of stop.ScriptUnread = status.ReadFailed
 status_of stop.DataUnread = status.ReadFailed
+status_of (stop.BadData fault) = status.DataRefused
+status_of (stop.Unfit fault name) = status.DataRefused
 status_of stop.NoMemory = status.NoMemory
 status_of stop.NotBuilt = status.NotBuilt
 
@@ -31,5 +33,7 @@ status_of stop.NotBuilt = status.NotBuilt
 abbrev pub line_of : Stop → Files → List ℕ
 line_of stop.ScriptUnread files = read_failed files.script
 line_of stop.DataUnread files = read_failed files.input
+line_of (stop.BadData fault) files = fault_line files.input fault
+line_of (stop.Unfit fault name) files = misfit_line files.input name fault
 line_of stop.NoMemory files = no_memory
 line_of stop.NotBuilt files = not_built

@@ -1,46 +1,61 @@
 //! From the two files of a run to its answer.
-ghost use Rattle.std.specs.Prelude.{◌≡◌, ℕ, ℤ, List, Some, None, IfSome, IfOk, IsErrOf, bytes_eq, if◌then◌else◌};
+ghost use Rattle.std.specs.Prelude.{◌≡◌, ℕ, ℤ, List as Seq, [], ◌∷◌, Some, Ok, IfSome, IfOk, IfErr, IsErrOf, map};
+ghost use Rattle.op_laws.specs.declared.width.Width.TheVariants.{W64};
+ghost use Rattle.op_laws.specs.Elements.{singles};
 ghost use Rattle.outside.specs.Outside.{Rose, NoneFell};
-ghost use Rattle.data_text.specs.OneList.{one_list};
-ghost use Rattle.sketo_run.specs.Answer.{IsAnswer, HasNoAnswer, IsBuilt, total, named_number};
+ghost use Rattle.data_text.specs.Named.{section_of, first_of};
+ghost use Rattle.script_lang.specs.Script.{ReducesNumbers};
+ghost use Rattle.sketo_run.specs.Fit.{input_of};
+ghost use Rattle.sketo_run.specs.Answer.{IsAnswer, IsReduced, IsBuilt, IsNotBuilt};
+ghost use Rattle.sketo_run.specs.Causes.{IsUnfit, IsCauseOf};
 ghost use Rattle.sketo_run.specs.Ends.{WhereTold};
 
+use crate::inputs::input_list;
 use crate::script_text::script_text;
 use crate::stop::Stop;
-use crate::sum::sum;
 use data_text::{Name, Named, Sections, Shelf, Value, read_data};
-use op_laws::{ElemType, Tup, Width};
+use op_catalog::reduce;
+use op_laws::List;
 use script_lang::{Script, read_script};
 use std::alloc::{AllocError, Global};
 
-// The sum of the list of this name.
-fn sum_of(sections: &Sections, name: &[u8]) -> Option<i128>
-    ensures { (n : List ℕ) (xs : List ℤ) → sections.now ≡ one_list n xs
-        → result ≡ (if bytes_eq n name.now then Some (total xs) else None) }
+// What the operator of a script makes of a list of numbers of 64 bits.
+fn value_of(script: &Script, list: &List) -> Value
+    requires ty { list.now.ty ≡ W64 ∷ [] }
+    ensures { (numbers : Seq ℤ) → list.now.items ≡ singles numbers
+        → IsReduced script.now numbers (record { name = script.now.result; value = result }) }
 {
-    let i = sections.find(name)?;
-    match &sections.at(i).value {
-        Value::List(list) => Some(sum(list)),
-        Value::Single(_, _) => None,
-    }
+    let op = script.op();
+    let Ok(ty) = op.typed(list.ty()) else {
+        unreachable!()
+    };
+    Value::Single(ty, reduce(list, op))
 }
 
-// The sum of the list that a script reads.
-fn sum_for(sections: &Sections, script: &Script) -> Option<i128>
-    ensures { (n : List ℕ) (xs : List ℤ) → sections.now ≡ one_list n xs
-        → result ≡ (if bytes_eq n script.now.input then Some (total xs) else None) }
-{
-    sum_of(sections, script.input().bytes())
-}
-
-// A sum under a name.
-fn named(alloc: Global, name: &Name, sum: i128) -> Result<Named, AllocError>
-    ensures { IfOk result (λ v. v ≡ named_number name.now sum) }
+// The same, under its name.
+fn named(alloc: Global, script: &Script, list: &List) -> Result<Named, AllocError>
+    requires ty { list.now.ty ≡ W64 ∷ [] }
+    requires singles { list.now.items ≡ singles (map first_of list.now.items) }
+    ensures { IfOk result (IsReduced script.now (map first_of list.now.items)) }
 {
     Ok(Named {
-        name: Name::of(alloc, name.bytes())?,
-        value: Value::Single(ElemType::one(Width::W96), Tup::one(sum)),
+        name: Name::of(alloc, script.result().bytes())?,
+        value: value_of(script, list),
     })
+}
+
+// What a script makes of data.
+fn reduced(alloc: Global, script: &Script, sections: &Sections) -> Result<Named, Stop>
+    ensures ok { IfOk result (λ answer. (numbers : Seq ℤ) × (input_of script.now (map section_of sections.now) ≡ Ok numbers) × IsReduced script.now numbers answer) }
+    ensures err { IfErr result (IsUnfit script.now (map section_of sections.now)) }
+{
+    match input_list(script, sections) {
+        Ok(list) => Ok(named(alloc, script, list)?),
+        Err(fault) => {
+            let name = Name::of(alloc, script.input().bytes())?;
+            Err(Stop::Unfit(fault, name))
+        }
+    }
 }
 
 /// The answer that a script gives on data.
@@ -51,7 +66,8 @@ pub fn answer<F: Shelf>(
     input: &str,
 ) -> Result<Named, Stop>
     ensures ok { IfOk result (λ a. WhereTold (F.content shelf.old) (record { script = script.now; input = input.now }) (λ s d. IsAnswer s d a)) }
-    ensures not_built { IsErrOf result Stop.NotBuilt → WhereTold (F.content shelf.old) (record { script = script.now; input = input.now }) HasNoAnswer }
+    ensures refused { IfErr result (λ stop. WhereTold (F.content shelf.old) (record { script = script.now; input = input.now }) (IsCauseOf stop)) }
+    ensures not_built { IsErrOf result Stop.NotBuilt → IfSome (F.content shelf.old script.now) IsNotBuilt }
     ensures script_unread { IsErrOf result Stop.ScriptUnread → Rose (F.faults shelf.old script.now) (F.faults shelf.new script.now) }
     ensures input_unread { IsErrOf result Stop.DataUnread → Rose (F.faults shelf.old input.now) (F.faults shelf.new input.now) }
     ensures after_script { IsErrOf result Stop.DataUnread → IfSome (F.content shelf.old script.now) IsBuilt }
@@ -61,8 +77,5 @@ pub fn answer<F: Shelf>(
     let text = script_text(alloc, shelf, script)?;
     let script = read_script(alloc, &text)?;
     let sections = read_data(alloc, shelf, input)?;
-    match sum_for(&sections, &script) {
-        Some(sum) => Ok(named(alloc, script.result(), sum)?),
-        None => Err(Stop::NotBuilt),
-    }
+    reduced(alloc, &script, &sections)
 }

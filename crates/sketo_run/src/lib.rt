@@ -5,6 +5,7 @@ mod answer;
 mod command;
 mod command_line;
 mod given;
+mod inputs;
 mod item;
 mod number;
 mod operands;
@@ -14,9 +15,9 @@ mod run;
 mod script_text;
 mod status;
 mod stop;
-mod sum;
 mod top;
 
+pub use inputs::{FitFault, fit};
 pub use status::Status;
 pub use top::sketo;
 

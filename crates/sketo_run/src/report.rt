@@ -2,14 +2,15 @@
 ghost use Rattle.std.specs.Prelude.{◌≡◌, ◌≤◌, OnOk, OnErr};
 ghost use Rattle.std.specs.List.{flat_map};
 ghost use Rattle.outside.specs.Outside.{Rose, Appends, AppendsFront};
-ghost use Rattle.sketo_run.specs.Report.{IsReported, read_failed, write_failed, no_memory, not_built};
+ghost use Rattle.sketo_run.specs.Report.{IsReported, read_failed, write_failed, no_memory, not_built, byte_line, fault_line, fault_text, fault_byte, name_line, misfit_line, misfit_text};
 ghost use Rattle.sketo_run.specs.Stops.{line_of};
 ghost use Rattle.sketo_run.specs.Refusals.{refusal_line, word_line};
 ghost use Rattle.sketo_run.specs.Seen.{refusal_of};
 
+use crate::inputs::FitFault;
 use crate::refusal::Refusal;
 use crate::stop::Stop;
-use data_text::{Failed, Outlet, Sink};
+use data_text::{DataFault, Failed, Outlet, Sink};
 
 // A line of these parts.
 fn put_line<E: Sink>(err: &mut E, parts: &[&[u8]]) -> Result<(), Failed>
@@ -42,13 +43,95 @@ pub fn report_unwritten<E: Sink>(err: &mut E)
     report(err, &[b"write: failed\n"]);
 }
 
+// What is wrong with data, and at which byte.
+fn fault_parts(fault: DataFault) -> (u64, &'static str)
+    ensures byte { result.0 ≡ fault_byte fault }
+    ensures text { result.1.now ≡ fault_text fault }
+{
+    match fault {
+        DataFault::BadWord(at) => (at, "bad word"),
+        DataFault::BadNumber(at) => (at, "bad number"),
+        DataFault::LongWord(at) => (at, "long word"),
+        DataFault::LongGap(at) => (at, "long gap"),
+        DataFault::BadKind(at) => (at, "unknown kind"),
+        DataFault::TooMany(at) => (at, "too many"),
+        DataFault::Short(at) => (at, "short"),
+        DataFault::Shape(at) => (at, "wrong shape"),
+        DataFault::Duplicate(at) => (at, "name used twice"),
+        DataFault::TooManySections(at) => (at, "too many sections"),
+        DataFault::Read | DataFault::Memory => (0, ""),
+    }
+}
+
+// Tells what is wrong at a byte of data.
+fn report_byte<'a, E: Sink>(err: &mut E, file: &'a str, byte: &'a str, text: &'a str)
+    ensures { IsReported (byte_line file.entry.now byte.entry.now text.entry.now) (E.written err.old) (E.written err.new) (E.faults err.old) (E.faults err.new) }
+{
+    report(
+        err,
+        &[
+            b"data: ",
+            file.as_bytes(),
+            b": byte ",
+            byte.as_bytes(),
+            b": ",
+            text.as_bytes(),
+            b"\n",
+        ],
+    );
+}
+
+fn report_fault<E: Sink>(err: &mut E, file: &str, fault: DataFault)
+    ensures { IsReported (fault_line file.now fault) (E.written err.old) (E.written err.new) (E.faults err.old) (E.faults err.new) }
+{
+    let (byte, text) = fault_parts(fault);
+    let mut buffer = itoa::Buffer::new();
+    report_byte(err, file, buffer.format(byte), text);
+}
+
+// How the data doesn't fit.
+fn misfit_text(fault: FitFault) -> &'static str
+    ensures { result.now ≡ misfit_text fault }
+{
+    match fault {
+        FitFault::NotThere(_) => "not there",
+        FitFault::WrongKind(_) => "wrong kind",
+    }
+}
+
+// Tells what is wrong with the data under a name.
+fn report_name<'a, E: Sink>(err: &mut E, file: &'a str, name: &'a [u8], text: &'a str)
+    ensures { IsReported (name_line file.entry.now name.entry.now text.entry.now) (E.written err.old) (E.written err.new) (E.faults err.old) (E.faults err.new) }
+{
+    report(
+        err,
+        &[
+            b"data: ",
+            file.as_bytes(),
+            b": ",
+            name,
+            b": ",
+            text.as_bytes(),
+            b"\n",
+        ],
+    );
+}
+
+fn report_misfit<E: Sink>(err: &mut E, file: &str, name: &[u8], fault: FitFault)
+    ensures { IsReported (misfit_line file.now name.now fault) (E.written err.old) (E.written err.new) (E.faults err.old) (E.faults err.new) }
+{
+    report_name(err, file, name, misfit_text(fault));
+}
+
 /// Tells why there is no answer.
-pub fn report_stop<E: Sink>(err: &mut E, stop: Stop, script: &str, input: &str)
-    ensures { IsReported (line_of stop (record { script = script.now; input = input.now })) (E.written err.old) (E.written err.new) (E.faults err.old) (E.faults err.new) }
+pub fn report_stop<E: Sink>(err: &mut E, stop: &Stop, script: &str, input: &str)
+    ensures { IsReported (line_of stop.now (record { script = script.now; input = input.now })) (E.written err.old) (E.written err.new) (E.faults err.old) (E.faults err.new) }
 {
     match stop {
         Stop::ScriptUnread => report_unread(err, script),
         Stop::DataUnread => report_unread(err, input),
+        Stop::BadData(fault) => report_fault(err, input, *fault),
+        Stop::Unfit(fault, name) => report_misfit(err, input, name.bytes(), *fault),
         Stop::NoMemory => report(err, &[b"memory: none\n"]),
         Stop::NotBuilt => report(err, &[b"stage: not built\n"]),
     }

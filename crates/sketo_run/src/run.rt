@@ -1,11 +1,11 @@
 //! A run: a script over data.
-ghost use Rattle.std.specs.Prelude.{◌≡◌, ◌⊎◌, ℕ, List, OnOk, OnErr, IsErrOf};
-ghost use Rattle.outside.specs.Outside.{Rose, Appends, AppendsFront};
+ghost use Rattle.std.specs.Prelude.{◌≡◌, ◌⊎◌, ℕ, List, OnOk, OnErr, IfSome};
+ghost use Rattle.outside.specs.Outside.{Rose, NoneFell, Appends, AppendsFront};
 ghost use Rattle.data_text.specs.Printed.{text_of};
-ghost use Rattle.sketo_run.specs.Answer.{HasNoAnswer};
+ghost use Rattle.sketo_run.specs.Answer.{IsNotBuilt};
 ghost use Rattle.sketo_run.specs.Report.{IsReported, read_failed, write_failed, no_memory, not_built};
 ghost use Rattle.sketo_run.specs.Commands.{Files};
-ghost use Rattle.sketo_run.specs.Ends.{WhereTold, IsPrinted, IsPrintedInPart, IsUnread, IsRunStatus, IsFaultless};
+ghost use Rattle.sketo_run.specs.Ends.{WhereTold, IsPrinted, IsPrintedInPart, IsDataRefused, IsUnread, IsRunStatus, IsFaultless};
 
 use crate::answer::answer;
 use crate::report::{report_stop, report_unwritten};
@@ -57,6 +57,9 @@ pub fn run<F: Shelf, O: Sink, E: Sink>(
         result ≡ 0 → WhereTold (F.content shelf.old) files (IsPrinted (O.written out.old) (O.written out.new)) }
     ensures quiet { result ≡ 0 → err.new ≡ err.old }
 
+    ensures data_refused { let files : Files = record { script = script.now; input = input.now } in
+        result ≡ 4 → WhereTold (F.content shelf.old) files (IsDataRefused input.now (E.written err.old) (E.written err.new) (E.faults err.old) (E.faults err.new)) }
+
     ensures read_failed { let files : Files = record { script = script.now; input = input.now } in
         result ≡ 5 → (file : List ℕ)
         × IsUnread (F.content shelf.old) files (F.faults shelf.old) (F.faults shelf.new) file
@@ -69,19 +72,20 @@ pub fn run<F: Shelf, O: Sink, E: Sink>(
 
     ensures memory_line { result ≡ 7 → IsReported no_memory (E.written err.old) (E.written err.new) (E.faults err.old) (E.faults err.new) }
 
-    ensures not_built { let files : Files = record { script = script.now; input = input.now } in
-        result ≡ 8 → WhereTold (F.content shelf.old) files HasNoAnswer }
+    ensures not_built { result ≡ 8 → IfSome (F.content shelf.old script.now) IsNotBuilt }
     ensures not_built_line { result ≡ 8 → IsReported not_built (E.written err.old) (E.written err.new) (E.faults err.old) (E.faults err.new) }
 
     ensures complete { let files : Files = record { script = script.now; input = input.now } in
         IsFaultless (F.content shelf.old) files (F.faults shelf.old) (F.faults shelf.new) (O.faults out.old) (O.faults out.new) → (result ≡ 0) ⊎ (result ≡ 7) }
 
-    ensures unwritten { (result ≡ 5) ⊎ ((result ≡ 7) ⊎ (result ≡ 8)) → out.new ≡ out.old }
+    ensures unwritten { (result ≡ 4) ⊎ ((result ≡ 5) ⊎ ((result ≡ 7) ⊎ (result ≡ 8))) → out.new ≡ out.old }
+    ensures content { F.content shelf.new ≡ F.content shelf.old }
+    ensures never_falls { NoneFell (F.faults shelf.old) (F.faults shelf.new) }
 {
     match answer(alloc, shelf, script, input) {
         Ok(answer) => print(out, err, &answer).code(),
         Err(stop) => {
-            report_stop(err, stop, script, input);
+            report_stop(err, &stop, script, input);
             stop.status().code()
         }
     }

@@ -1,6 +1,7 @@
 //! The bytes of a script.
-ghost use Rattle.std.specs.Prelude.{◌≡◌, IfSome, IfOk, IsErrOf, take};
+ghost use Rattle.std.specs.Prelude.{◌≡◌, IfSome, IfOk, IfErr, IsErrOf, take};
 ghost use Rattle.outside.specs.Outside.{Rose, NoneFell};
+ghost use Rattle.sketo_run.specs.Causes.{IsReadStop};
 
 use crate::stop::Stop;
 use data_text::Shelf;
@@ -15,8 +16,7 @@ pub fn script_text<F: Shelf>(alloc: Global, shelf: &mut F, name: &str) -> Result
     ensures content { F.content shelf.new ≡ F.content shelf.old }
     ensures never_falls { NoneFell (F.faults shelf.old) (F.faults shelf.new) }
     ensures unread { IsErrOf result Stop.ScriptUnread → Rose (F.faults shelf.old name.now) (F.faults shelf.new name.now) }
-    ensures not_data { IsErrOf result Stop.DataUnread → ⊥ }
-    ensures not_form { IsErrOf result Stop.NotBuilt → ⊥ }
+    ensures stops { IfErr result IsReadStop }
 {
     if shelf.start(name).is_err() {
         return Err(Stop::ScriptUnread);

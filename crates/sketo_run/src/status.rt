@@ -9,6 +9,8 @@ pub enum Status {
     Answered,
     /// The words are refused.
     WordsRefused,
+    /// The data is refused.
+    DataRefused,
     /// A read failed.
     ReadFailed,
     /// A write to output failed.
@@ -27,6 +29,7 @@ impl Status {
         match self {
             Status::Answered => 0,
             Status::WordsRefused => 2,
+            Status::DataRefused => 4,
             Status::ReadFailed => 5,
             Status::WriteFailed => 6,
             Status::NoMemory => 7,

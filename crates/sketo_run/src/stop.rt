@@ -1,18 +1,23 @@
 //! Why there is no answer.
 ghost use Rattle.std.specs.Prelude.{◌≡◌};
 
+use crate::inputs::FitFault;
 use crate::status::Status;
-use data_text::DataFault;
+use data_text::{DataFault, Name};
 use script_lang::ScriptFault;
 use std::alloc::AllocError;
 
 /// Why there is no answer.
-#[derive(Clone, Copy, Debug, PartialEq, Eq)]
+#[derive(Debug, Drop)]
 pub enum Stop {
     /// The script couldn't be read.
     ScriptUnread,
     /// The data couldn't be read.
     DataUnread,
+    /// The data is at fault.
+    BadData(DataFault),
+    /// The data doesn't fit the script's input of this name.
+    Unfit(FitFault, Name),
     /// Memory was refused.
     NoMemory,
     /// A form that isn't built yet.
@@ -23,11 +28,12 @@ impl Stop {
     ghost use Rattle.sketo_run.specs.Stops.{status_of};
 
     /// The status that tells of it.
-    pub fn status(self) -> Status
-        ensures { result ≡ status_of self }
+    pub fn status(&self) -> Status
+        ensures { result ≡ status_of self.now }
     {
         match self {
             Stop::ScriptUnread | Stop::DataUnread => Status::ReadFailed,
+            Stop::BadData(_) | Stop::Unfit(_, _) => Status::DataRefused,
             Stop::NoMemory => Status::NoMemory,
             Stop::NotBuilt => Status::NotBuilt,
         }
@@ -67,9 +73,9 @@ impl From<DataFault> for Stop {
 
     fn from(fault: DataFault) -> Stop {
         match fault {
-            DataFault::NotBuilt => Stop::NotBuilt,
             DataFault::Read => Stop::DataUnread,
             DataFault::Memory => Stop::NoMemory,
+            fault => Stop::BadData(fault),
         }
     }
 }

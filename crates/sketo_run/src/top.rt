@@ -1,11 +1,11 @@
 //! The top call.
 ghost use Rattle.std.specs.Prelude.{◌≡◌, ◌⊎◌, ℕ, List, None, IfErr, IfSome, IsErr, IsSomeAnd};
-ghost use Rattle.outside.specs.Outside.{Rose};
+ghost use Rattle.outside.specs.Outside.{Rose, NoneFell};
 ghost use Rattle.sketo_run.specs.Words.{command_line, run_files, texts_of};
 ghost use Rattle.sketo_run.specs.Refusals.{refusal_line};
-ghost use Rattle.sketo_run.specs.Answer.{HasNoAnswer};
+ghost use Rattle.sketo_run.specs.Answer.{IsNotBuilt};
 ghost use Rattle.sketo_run.specs.Report.{IsReported, read_failed, write_failed, no_memory, not_built};
-ghost use Rattle.sketo_run.specs.Ends.{WhereTold, IsPrinted, IsPrintedInPart, IsUnread, IsStatus, IsFaultless};
+ghost use Rattle.sketo_run.specs.Ends.{WhereTold, IsPrinted, IsPrintedInPart, IsDataRefused, IsUnread, IsStatus, IsFaultless};
 
 use crate::command::Command;
 use crate::command_line::read_words;
@@ -38,6 +38,9 @@ pub fn sketo<F: Shelf, O: Sink, E: Sink>(
         WhereTold (F.content shelf.old) files (IsPrinted (O.written out.old) (O.written out.new))) }
     ensures quiet { result ≡ 0 → err.new ≡ err.old }
 
+    ensures data_refused { result ≡ 4 → IsSomeAnd (run_files (texts_of words.now)) (λ files.
+        WhereTold (F.content shelf.old) files (IsDataRefused files.input (E.written err.old) (E.written err.new) (E.faults err.old) (E.faults err.new))) }
+
     ensures read_failed { result ≡ 5 → IsSomeAnd (run_files (texts_of words.now)) (λ files. (file : List ℕ)
         × IsUnread (F.content shelf.old) files (F.faults shelf.old) (F.faults shelf.new) file
         × IsReported (read_failed file) (E.written err.old) (E.written err.new) (E.faults err.old) (E.faults err.new)) }
@@ -49,19 +52,21 @@ pub fn sketo<F: Shelf, O: Sink, E: Sink>(
 
     ensures memory_line { result ≡ 7 → IsReported no_memory (E.written err.old) (E.written err.new) (E.faults err.old) (E.faults err.new) }
 
-    ensures not_built { result ≡ 8 → IfSome (run_files (texts_of words.now)) (λ files. WhereTold (F.content shelf.old) files HasNoAnswer) }
+    ensures not_built { result ≡ 8 → IfSome (run_files (texts_of words.now)) (λ files. IfSome (F.content shelf.old files.script) IsNotBuilt) }
     ensures not_built_line { result ≡ 8 → IsReported not_built (E.written err.old) (E.written err.new) (E.faults err.old) (E.faults err.new) }
 
     ensures complete { IfSome (run_files (texts_of words.now)) (λ files.
         IsFaultless (F.content shelf.old) files (F.faults shelf.old) (F.faults shelf.new) (O.faults out.old) (O.faults out.new) → (result ≡ 0) ⊎ (result ≡ 7)) }
 
-    ensures unwritten { (result ≡ 2) ⊎ ((result ≡ 5) ⊎ ((result ≡ 7) ⊎ (result ≡ 8))) → out.new ≡ out.old }
+    ensures unwritten { (result ≡ 2) ⊎ ((result ≡ 4) ⊎ ((result ≡ 5) ⊎ ((result ≡ 7) ⊎ (result ≡ 8)))) → out.new ≡ out.old }
+    ensures content { F.content shelf.new ≡ F.content shelf.old }
+    ensures never_falls { NoneFell (F.faults shelf.old) (F.faults shelf.new) }
     ensures unread { run_files (texts_of words.now) ≡ None → shelf.new ≡ shelf.old }
 {
     match read_words(words) {
         Ok(Command::Run(files, _)) => run(alloc, files.script, files.input, shelf, out, err),
         Ok(_) => {
-            report_stop(err, Stop::NotBuilt, "", "");
+            report_stop(err, &Stop::NotBuilt, "", "");
             Status::NotBuilt.code()
         }
         Err(refusal) => {

@@ -102,8 +102,8 @@ fn assert_end(rt: &impl Abort, end: &End, status: u8, out: &str, err: &str, row:
     );
 }
 
-// A script adds up data to this output, over each shelf.
-fn assert_sum(
+// A script makes this output of data, over each shelf.
+fn assert_answer(
     rt: &impl Abort,
     alloc: Global,
     script: &str,
@@ -143,32 +143,102 @@ fn a_script_adds_up_a_list(rt: HostRuntime) -> Result<(), Fail> {
             "numbers list 3 10 20 30",
             "The_Sum value 60\n",
         ),
+        (
+            SUM,
+            "m matrix 1 2 3 4 x list 1 5 t tree 1 L 6 r rose 1 7 0 v value 8",
+            "r value 5\n",
+        ),
     ] {
-        assert_sum(&rt, alloc, script, data, out)?;
+        assert_answer(&rt, alloc, script, data, out)?;
     }
     Ok(())
 }
 
 #[test]
-fn other_forms_are_not_built(rt: HostRuntime) -> Result<(), Fail> {
+fn a_list_is_reduced_by_its_operator(rt: HostRuntime) -> Result<(), Fail> {
     let alloc = rt.alloc();
-    let prints_x = Some("input x list\nlet r = reduce add x\nprint x\n");
+    let mixed = "x list 6 3 -4 2 -1 6 -3";
+    let greatest = "x list 2 9223372036854775807 9223372036854775807";
+    for (op, data, value) in [
+        ("add", "x list 0", "0"),
+        ("mul", "x list 0", "1"),
+        ("min", "x list 0", "9223372036854775807"),
+        ("max", "x list 0", "-9223372036854775808"),
+        ("and", "x list 0", "-1"),
+        ("or", "x list 0", "0"),
+        ("xor", "x list 0", "0"),
+        ("mss", "x list 0", "0"),
+        ("add", greatest, "18446744073709551614"),
+        ("mul", greatest, "1"),
+        ("mss", mixed, "7"),
+        ("mul", mixed, "-432"),
+        ("min", mixed, "-4"),
+        ("max", mixed, "6"),
+        ("and", "x list 3 14 7 -2", "6"),
+        ("or", "x list 3 1 4 -8", "-3"),
+        ("xor", "x list 3 5 5 -1", "-1"),
+    ] {
+        let script = format!(in alloc; "input x list\nlet r = reduce {op} x\nprint r\n")?;
+        let out = format!(in alloc; "r value {value}\n")?;
+        assert_answer(&rt, alloc, script.as_str(), data, out.as_str())?;
+    }
+    for block in ["1", "2", "6"] {
+        let line = format!(in alloc; "run s d --block {block}")?;
+        let script = Some("input x list\nlet r = reduce mss x\nprint r\n");
+        let end = run_sure(alloc, line.as_str(), script, Some(mixed))?;
+        assert_end(&rt, &end, 0, "r value 7\n", "", line.as_str());
+    }
+    Ok(())
+}
+
+#[test]
+fn other_scripts_are_not_built(rt: HostRuntime) -> Result<(), Fail> {
+    let alloc = rt.alloc();
+    let prints_x = "input x list\nlet r = reduce add x\nprint x\n";
+    let affine = "input x list\nlet r = reduce affine x\nprint r\n";
     for (script, data) in [
         (prints_x, Some(FIVE)),
+        (prints_x, Some("x list 1 y")),
         (prints_x, None),
-        (Some(""), Some(FIVE)),
-        (Some(SUM), Some("")),
-        (Some(SUM), Some("x lust 0")),
-        (Some(SUM), Some("x list 2 1")),
-        (Some(SUM), Some("x list 1 1 2")),
-        (Some(SUM), Some("y list 0")),
-        (Some(SUM), Some("x list 0 y list 0")),
-        (Some(SUM), Some("x list 1 9223372036854775808")),
-        (Some(SUM), Some("x list 1 -9223372036854775809")),
+        (affine, Some(FIVE)),
+        ("", Some(FIVE)),
     ] {
-        let end = run_sure(alloc, RUN, script, data)?;
-        let row = data.unwrap_or("no data");
-        assert_end(&rt, &end, 8, "", "stage: not built\n", row);
+        let end = run_sure(alloc, RUN, Some(script), data)?;
+        assert_end(&rt, &end, 8, "", "stage: not built\n", script);
+    }
+    Ok(())
+}
+
+#[test]
+fn refused_data_is_told_by_its_first_fault(rt: HostRuntime) -> Result<(), Fail> {
+    let alloc = rt.alloc();
+    for (data, told) in [
+        ("x list 4294967296", "byte 7: too many"),
+        ("x list 1 9223372036854775808", "byte 9: bad number"),
+        ("x list 1 -9223372036854775809", "byte 9: bad number"),
+        ("t tree 3 N 1 L 2", "byte 16: short"),
+        ("t tree 3 L 1 L 2 L 3", "byte 13: wrong shape"),
+        ("x list 0 x list 0", "byte 9: name used twice"),
+        ("x lust 0", "byte 2: unknown kind"),
+        ("x list 2 1", "byte 10: short"),
+        ("x list 1 1 2", "byte 11: bad word"),
+        ("", "x: not there"),
+        ("y list 0", "x: not there"),
+        ("y list 1 5 z value 3", "x: not there"),
+        ("y list 1 5 z", "byte 12: short"),
+        ("x matrix 1 1 5", "x: wrong kind"),
+        ("x value 5", "x: wrong kind"),
+        ("y list 0 x tree 1 L 5", "x: wrong kind"),
+        ("x rose 1 5 0", "x: wrong kind"),
+    ] {
+        let line = format!(in alloc; "data: d: {told}\n")?;
+        let end = run_sure(alloc, RUN, Some(SUM), Some(data))?;
+        assert_end(&rt, &end, 4, "", line.as_str(), data);
+        for piece in [1, 2, 4096] {
+            let files = files(alloc, Some(SUM), Some(data))?;
+            let end = run_in_pieces(&rt, alloc, files, piece, Vec::new(alloc))?;
+            assert_end(&rt, &end, 4, "", line.as_str(), data);
+        }
     }
     Ok(())
 }
@@ -258,7 +328,7 @@ fn a_failed_write_is_told_and_a_failed_report_changes_nothing(rt: HostRuntime) -
         (five, Some(3), Some(3), 6, "r v", "wri"),
         (five, None, Some(3), 0, "r value 15\n", ""),
         (None, None, Some(3), 5, "", "rea"),
-        (Some("x"), None, Some(3), 8, "", "sta"),
+        (Some("x"), None, Some(3), 4, "", "dat"),
     ] {
         let mut shelf = SureShelf::new(alloc, files(alloc, Some(SUM), data)?);
         let (to_out, to_err) = (sink(alloc, out_takes)?, sink(alloc, err_takes)?);

@@ -1,6 +1,6 @@
 use Rattle.std.proofs.Common.{ap, ◌∙◌, Err}
 use Rattle.sketo_run.specs.Statuses.{code_of}
-use Rattle.sketo_run.proofs.EndLemmas.{printed, printed_in_part, answered_code, write_code, stops_faultless}
+use Rattle.sketo_run.proofs.EndLemmas.{printed, printed_in_part, answered_code, write_code, stops_faultless, stops_refused}
 use Rattle.sketo_run.proofs.run.run.Goals as goal
 
 pub returns-in-Ok-clause-answered : goal.returns-in-Ok-clause-answered
@@ -17,4 +17,9 @@ pub returns-in-Err-clause-complete : goal.returns-in-Err-clause-complete
 returns-in-Err-clause-complete g c =
     stops_faultless (g.F.Shelf.content c.args.shelf.now) (record { script = c.args.script.now; input = c.args.input.now }) c.in-Err.stop _ (g.F.Shelf.faults c.args.shelf.now) (g.F.Shelf.faults c.answer.new.shelf) _ _
     (c.code-in-Err.ensures ∙ ap code_of c.status.ensures)
-    (λ e. c.in-Err.ensures.not_built (ap Err e)) (λ e. c.in-Err.ensures.script_unread (ap Err e)) (λ e. c.in-Err.ensures.input_unread (ap Err e))
+    c.in-Err.ensures.refused (λ e. c.in-Err.ensures.not_built (ap Err e)) (λ e. c.in-Err.ensures.script_unread (ap Err e)) (λ e. c.in-Err.ensures.input_unread (ap Err e))
+
+pub returns-in-Err-clause-data_refused : goal.returns-in-Err-clause-data_refused
+returns-in-Err-clause-data_refused g c =
+    stops_refused (g.F.Shelf.content c.args.shelf.now) (record { script = c.args.script.now; input = c.args.input.now }) c.in-Err.stop _ _ _ _ _
+    (c.code-in-Err.ensures ∙ ap code_of c.status.ensures) c.in-Err.ensures.refused c.report_stop.ensures
