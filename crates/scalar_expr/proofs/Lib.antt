@@ -1,0 +1,11 @@
+pub mod Nodes
+pub mod Faults
+pub mod Building
+pub mod Rooms
+pub mod Bounds
+pub mod Exactness
+pub mod WordLemmas
+pub mod Runs
+pub mod LaneLemmas
+pub mod NarrowLemmas
+pub mod WideLemmas

@@ -1,0 +1,11 @@
+pub mod Expr
+pub mod Views
+pub mod Values
+pub mod Typing
+pub mod Walk
+pub mod Columns
+pub mod Steps
+pub mod Functions
+pub mod Codes
+pub mod Compiled
+pub mod Lanes
