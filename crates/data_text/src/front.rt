@@ -1,12 +1,13 @@
-//! Numbers in front of bytes, in one pass.
+//! Numbers, counts and marks in front of bytes, in one pass.
 ghost use Rattle.std.specs.Prelude.{◌≡◌, ◌≤◌, ◌<◌, IfSome, length, take, true};
 ghost use Rattle.std.specs.Str.Parse.{digits_value};
 ghost use Rattle.std.specs.List.{list_all};
 ghost use Rattle.std.specs.Char.{is_ascii_digit};
-ghost use Rattle.data_text.specs.Front.{IsFrontNumber, IsSignedFront};
+ghost use Rattle.data_text.specs.Front.{IsFrontNumber, IsSignedFront, IsFrontCount, IsFrontMark};
 
 use crate::numbers::signed;
 use crate::runs::is_blank;
+use crate::stage::mark_of;
 
 // So many digits are in 64 bits.
 const FEW: usize = 19;
@@ -29,15 +30,26 @@ fn front_digits(bytes: &[u8]) -> (u64, usize)
     (n, bytes.len())
 }
 
-// The number of few digits that bytes begin with, or its opposite, where a blank follows.
+/// The count of few digits that bytes begin with and the length of its word, where a blank follows.
 #[inline(always)]
-fn signed_front(negative: bool, bytes: &[u8]) -> Option<(i64, usize)>
-    ensures { IfSome result (λ r. IsSignedFront negative bytes.now r.0 r.1) }
+pub fn front_count(bytes: &[u8]) -> Option<(u64, usize)>
+    ensures { IfSome result (λ r. IsFrontCount bytes.now r.0 r.1) }
 {
     let (n, count) = front_digits(bytes);
     if count == 0 || count == bytes.len() || !is_blank(bytes[count]) {
         return None;
     }
+    Some((n, count))
+}
+
+// The number of few digits that bytes begin with, or its opposite, where a blank follows.
+#[inline(always)]
+fn signed_front(negative: bool, bytes: &[u8]) -> Option<(i64, usize)>
+    ensures { IfSome result (λ r. IsSignedFront negative bytes.now r.0 r.1) }
+{
+    let Some((n, count)) = front_count(bytes) else {
+        return None;
+    };
     match signed(negative, n) {
         Some(x) => Some((x, count)),
         None => None,
@@ -62,4 +74,15 @@ pub fn front_number(bytes: &[u8]) -> Option<(i64, usize)>
             }
         }
     }
+}
+
+/// Whether bytes begin with the mark of a leaf or of an inner node, where a blank follows.
+#[inline(always)]
+pub fn front_mark(bytes: &[u8]) -> Option<bool>
+    ensures { IfSome result (λ leaf. IsFrontMark bytes.now leaf) }
+{
+    if bytes.len() < 2 || !is_blank(bytes[1]) {
+        return None;
+    }
+    mark_of(&bytes[..1])
 }

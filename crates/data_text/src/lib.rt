@@ -28,4 +28,6 @@ pub use sections::Sections;
 pub use value::{Named, Value};
 
 #[cfg(test)]
+mod print_tests;
+#[cfg(test)]
 mod tests;

@@ -42,12 +42,12 @@ impl Parser {
     ghost use Rattle.std.specs.Prelude.{min, option_map};
     ghost use Rattle.std.specs.List.{zip};
     ghost use Rattle.bin_tree.specs.Places.{IsWhole, arity};
-    ghost use Rattle.data_text.specs.Data.{tree, rose};
+    ghost use Rattle.data_text.specs.Data.{tree, rose, mark_of};
     ghost use Rattle.data_text.specs.Words.{Item, word};
     ghost use Rattle.data_text.specs.Numbers.{number_of, count_of};
     ghost use Rattle.data_text.specs.Told.{GoesOn, Gives};
     ghost use Rattle.data_text.specs.Named.{section_of, content_of, mark_of_leaf, IsOfW64};
-    ghost use Rattle.data_text.specs.Stages.{awaits_number, made, Fills};
+    ghost use Rattle.data_text.specs.Stages.{awaits_number, awaits_mark, awaits_count, made, Fills};
     ghost use Rattle.data_text.specs.Resume.{resume, words_left, IsDue, Closes};
 
     /// A parser that has read nothing and takes at most so many sections.
@@ -260,20 +260,19 @@ impl Parser {
         Ok(())
     }
 
+    // Takes the mark of a node whose word begins at this byte.
+    #[inline(always)]
     #[tactic(auto, unfolding(crate::specs::Resume::resume, crate::specs::Data::nodes_at, crate::specs::Data::next))]
-    fn take_mark(&mut self, more: u32, places: u32, at: u64, text: &[u8]) -> Result<(), DataFault>
-        requires short { length text.now ≤ 40 }
-        requires stage { self.old.stage ≡ Stage.Mark more places }
+    fn put_mark(&mut self, more: u32, places: u32, at: u64, leaf: bool) -> Result<(), DataFault>
+        requires { self.old.stage ≡ Stage.Mark more places }
         ensures no_more { words_left self.new ≤ words_left self.old }
         ensures fewer { OnOk result (words_left self.new + 1 ≤ words_left self.old) }
-        ensures step { (end : ℕ) (items : List Item) → GoesOn result (resume self.old end (word at text.now ∷ items)) (λ _. resume self.new end items) }
+        ensures step { (end : ℕ) (text : List ℕ) (items : List Item) → length text ≤ 40 → mark_of text ≡ Some (mark_of_leaf leaf)
+            → GoesOn result (resume self.old end (word at text ∷ items)) (λ _. resume self.new end items) }
     {
         if places == 0 {
             return Err(DataFault::Shape(at));
         }
-        let Some(leaf) = mark_of(text) else {
-            return Err(DataFault::BadWord(at));
-        };
         let after = if leaf {
             u64::from(places) - 1
         } else {
@@ -391,6 +390,21 @@ impl Parser {
         self.put_number(form, more, x)
     }
 
+    #[tactic(auto, unfolding(crate::specs::Resume::resume, crate::specs::Data::nodes_at, crate::specs::Data::next))]
+    fn take_mark(&mut self, more: u32, places: u32, at: u64, text: &[u8]) -> Result<(), DataFault>
+        requires short { length text.now ≤ 40 }
+        requires stage { self.old.stage ≡ Stage.Mark more places }
+        ensures no_more { words_left self.new ≤ words_left self.old }
+        ensures fewer { OnOk result (words_left self.new + 1 ≤ words_left self.old) }
+        ensures step { (end : ℕ) (items : List Item) → GoesOn result (resume self.old end (word at text.now ∷ items)) (λ _. resume self.new end items) }
+    {
+        match mark_of(text) {
+            Some(leaf) => self.put_mark(more, places, at, leaf),
+            None if places == 0 => Err(DataFault::Shape(at)),
+            None => Err(DataFault::BadWord(at)),
+        }
+    }
+
     #[tactic(auto, unfolding(crate::specs::Resume::resume, crate::specs::Data::number_at, crate::specs::Data::next))]
     fn take_value(
         &mut self,
@@ -501,6 +515,52 @@ impl Parser {
             Stage::Numbers(form, more) => self.put_number(form, more, x),
             Stage::Value(more, places, leaf) => self.put_value(more, places, leaf, x),
             Stage::RoseValue(more, places) => self.put_rose_value(more, places, at, x),
+            _ => unreachable!(),
+        }
+    }
+
+    /// Whether a mark is the next word.
+    #[inline(always)]
+    pub fn awaits_mark(&self) -> bool
+        ensures { result ≡ awaits_mark self.now.stage }
+    {
+        matches!(self.stage, Stage::Mark(..))
+    }
+
+    /// Takes the mark of a word that begins at this byte.
+    #[inline(always)]
+    pub fn put_leaf(&mut self, at: u64, leaf: bool) -> Result<(), DataFault>
+        requires { awaits_mark self.old.stage ≡ true }
+        ensures no_more { words_left self.new ≤ words_left self.old }
+        ensures fewer { OnOk result (words_left self.new + 1 ≤ words_left self.old) }
+        ensures step { (end : ℕ) (text : List ℕ) (items : List Item) → length text ≤ 40 → mark_of text ≡ Some (mark_of_leaf leaf)
+            → GoesOn result (resume self.old end (word at text ∷ items)) (λ _. resume self.new end items) }
+    {
+        match self.stage {
+            Stage::Mark(more, places) => self.put_mark(more, places, at, leaf),
+            _ => unreachable!(),
+        }
+    }
+
+    /// Whether a number of children is the next word.
+    #[inline(always)]
+    pub fn awaits_count(&self) -> bool
+        ensures { result ≡ awaits_count self.now.stage }
+    {
+        matches!(self.stage, Stage::Children(..))
+    }
+
+    /// Takes the number of children of a word that begins at this byte.
+    #[inline(always)]
+    pub fn put_count(&mut self, at: u64, children: u64) -> Result<(), DataFault>
+        requires { awaits_count self.old.stage ≡ true }
+        ensures no_more { words_left self.new ≤ words_left self.old }
+        ensures fewer { OnOk result (words_left self.new + 1 ≤ words_left self.old) }
+        ensures step { (end : ℕ) (text : List ℕ) (items : List Item) → length text ≤ 40 → Some children ≡ option_map (λ n. min n 18446744073709551615) (count_of text)
+            → GoesOn result (resume self.old end (word at text ∷ items)) (λ _. resume self.new end items) }
+    {
+        match self.stage {
+            Stage::Children(more, places, x) => self.put_children(more, places, x, at, children),
             _ => unreachable!(),
         }
     }

@@ -8,10 +8,6 @@ ghost use Rattle.data_text.specs.Named.{AreSections};
 ghost use Rattle.data_text.specs.ReadBack.{IsReadBack};
 ghost use Rattle.bin_tree.specs.Trees as binary;
 ghost use Rattle.bin_tree.specs.Roses as roses;
-ghost use Rattle.data_text.specs.Named.{AreSections};
-ghost use Rattle.data_text.specs.ReadBack.{IsReadBack};
-ghost use Rattle.bin_tree.specs.Trees as binary;
-ghost use Rattle.bin_tree.specs.Roses as roses;
 
 use crate::kept::are_kept;
 use crate::outlet::Outlet;

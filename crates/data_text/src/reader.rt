@@ -6,7 +6,7 @@ ghost use Rattle.data_text.specs.Stages.{words_of_section};
 ghost use Rattle.data_text.specs.Resume.{words_left};
 
 use crate::data_fault::DataFault;
-use crate::front::front_number;
+use crate::front::{front_count, front_mark, front_number};
 use crate::parser::Parser;
 use crate::runs::{blank_run, is_blank, solid_run};
 use crate::sections::Sections;
@@ -32,8 +32,8 @@ pub struct Reader {
 impl Reader {
     ghost use Rattle.data_text.specs.Told.{GoesOn, Gives};
     ghost use Rattle.data_text.specs.Named.{section_of};
-    ghost use Rattle.data_text.specs.Front.{IsWordOf};
-    ghost use Rattle.data_text.specs.Stages.{awaits_number};
+    ghost use Rattle.data_text.specs.Front.{IsWordOf, IsMarkWord, IsCountWord};
+    ghost use Rattle.data_text.specs.Stages.{awaits_number, awaits_mark, awaits_count};
     ghost use Rattle.data_text.specs.Continued.{continued};
 
     // Hands on the word that ends here, if there is one.
@@ -172,6 +172,97 @@ impl Reader {
         Ok(count + 1)
     }
 
+    // Takes a mark, and the blank after it.
+    #[inline(always)]
+    fn pass_mark(&mut self, leaf: bool) -> Result<(), DataFault>
+        requires awaited { awaits_mark self.old.parser.stage ≡ true }
+        requires empty { self.old.word.items ≡ [] }
+        ensures step { (end b : ℕ) (text bytes : List ℕ) → IsMarkWord text leaf → is_blank b ≡ true
+            → GoesOn result (continued self.old end (text ++ b ∷ bytes)) (λ _. continued self.new end bytes) }
+        ensures at { OnOk result (self.new.at ≡ self.old.at + 2) }
+    {
+        self.parser.put_leaf(self.at, leaf)?;
+        self.at += 2;
+        self.gap = 1;
+        Ok(())
+    }
+
+    // Takes the mark that a piece begins with, or what else it begins with, and says how many bytes it took.
+    #[inline(always)]
+    fn step_mark(&mut self, piece: &[u8]) -> Result<usize, DataFault>
+        requires awaited { awaits_mark self.old.parser.stage ≡ true }
+        requires empty { self.old.word.items ≡ [] }
+        requires some { 0 < length piece.now }
+        requires solid { is_blank (slice_index piece.now 0) ≡ false }
+        ensures moves { IfOk result (λ n. 0 < n) }
+        ensures within { IfOk result (λ n. n ≤ length piece.now) }
+        ensures at { IfOk result (λ n. self.new.at ≡ self.old.at + n) }
+        ensures step { (end : ℕ) (bytes : List ℕ) → GoesOn result (continued self.old end (piece.now ++ bytes)) (λ n. continued self.new end (drop n piece.now ++ bytes)) }
+    {
+        let Some(leaf) = front_mark(piece) else {
+            return self.step_word(piece);
+        };
+        self.pass_mark(leaf)?;
+        Ok(2)
+    }
+
+    // Takes a number of children whose word has so many bytes, and the blank after it.
+    #[inline(always)]
+    fn pass_count(&mut self, children: u64, count: usize) -> Result<(), DataFault>
+        requires awaited { awaits_count self.old.parser.stage ≡ true }
+        requires empty { self.old.word.items ≡ [] }
+        requires short { count ≤ 40 }
+        ensures step { (end b : ℕ) (text bytes : List ℕ) → IsCountWord text children count → is_blank b ≡ true
+            → GoesOn result (continued self.old end (text ++ b ∷ bytes)) (λ _. continued self.new end bytes) }
+        ensures at { OnOk result (self.new.at ≡ self.old.at + (count + 1)) }
+    {
+        self.parser.put_count(self.at, children)?;
+        self.at += count as u64 + 1;
+        self.gap = 1;
+        Ok(())
+    }
+
+    // Takes the count that a piece begins with, or what else it begins with, and says how many bytes it took.
+    #[inline(always)]
+    fn step_count(&mut self, piece: &[u8]) -> Result<usize, DataFault>
+        requires awaited { awaits_count self.old.parser.stage ≡ true }
+        requires empty { self.old.word.items ≡ [] }
+        requires some { 0 < length piece.now }
+        requires solid { is_blank (slice_index piece.now 0) ≡ false }
+        ensures moves { IfOk result (λ n. 0 < n) }
+        ensures within { IfOk result (λ n. n ≤ length piece.now) }
+        ensures at { IfOk result (λ n. self.new.at ≡ self.old.at + n) }
+        ensures step { (end : ℕ) (bytes : List ℕ) → GoesOn result (continued self.old end (piece.now ++ bytes)) (λ n. continued self.new end (drop n piece.now ++ bytes)) }
+    {
+        let Some((children, count)) = front_count(piece) else {
+            return self.step_word(piece);
+        };
+        self.pass_count(children, count)?;
+        Ok(count + 1)
+    }
+
+    // Takes a word that a piece begins with, where no part of it was kept, and says how many bytes it took.
+    #[inline(always)]
+    fn step_new_word(&mut self, piece: &[u8]) -> Result<usize, DataFault>
+        requires empty { self.old.word.items ≡ [] }
+        requires some { 0 < length piece.now }
+        requires solid { is_blank (slice_index piece.now 0) ≡ false }
+        ensures moves { IfOk result (λ n. 0 < n) }
+        ensures within { IfOk result (λ n. n ≤ length piece.now) }
+        ensures at { IfOk result (λ n. self.new.at ≡ self.old.at + n) }
+        ensures step { (end : ℕ) (bytes : List ℕ) → GoesOn result (continued self.old end (piece.now ++ bytes)) (λ n. continued self.new end (drop n piece.now ++ bytes)) }
+    {
+        if self.parser.awaits_number() {
+            self.step_number(piece)
+        } else if self.parser.awaits_mark() {
+            self.step_mark(piece)
+        } else if self.parser.awaits_count() {
+            self.step_count(piece)
+        } else {
+            self.step_word(piece)
+        }
+    }
+
     // Takes what a piece begins with where it begins with no blank, and says how many bytes it took.
     #[inline(always)]
     fn step_solid(&mut self, piece: &[u8]) -> Result<usize, DataFault>
@@ -182,8 +273,8 @@ impl Reader {
         ensures at { IfOk result (λ n. self.new.at ≡ self.old.at + n) }
         ensures step { (end : ℕ) (bytes : List ℕ) → GoesOn result (continued self.old end (piece.now ++ bytes)) (λ n. continued self.new end (drop n piece.now ++ bytes)) }
     {
-        if self.word.is_empty() && self.parser.awaits_number() {
-            self.step_number(piece)
+        if self.word.is_empty() {
+            self.step_new_word(piece)
         } else {
             self.step_word(piece)
         }
