@@ -1,0 +1,4 @@
+pub mod Named
+pub mod DownMeanings
+pub mod TreeMeanings
+pub mod RoseMeanings

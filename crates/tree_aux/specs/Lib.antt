@@ -1,0 +1,12 @@
+pub mod Names
+pub mod Joined
+pub mod JoinedLaws
+pub mod ComingDown
+pub mod SumTrees
+pub mod SumTreeLaws
+pub mod BoundTrees
+pub mod BoundTreeLaws
+pub mod LongPaths
+pub mod LongPathLaws
+pub mod WordTrees
+pub mod WordTreeLaws
