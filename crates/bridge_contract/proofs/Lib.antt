@@ -1,0 +1,13 @@
+pub mod Laws
+pub mod Contracting
+pub mod Stacks
+pub mod CutLemmas
+pub mod StackLemmas
+pub mod JoinLemmas
+pub mod WholeLemmas
+pub mod DownLaws
+pub mod FallLemmas
+pub mod WayLemmas
+pub mod PassLemmas
+pub mod StandLemmas
+pub mod WholeDownLemmas

@@ -1,0 +1,12 @@
+use Rattle.std.proofs.Common.{◌≤◌, length}
+use Rattle.bridge_contract.proofs.JoinLemmas.{Raised}
+use Rattle.bridge_contract.proofs.joining.join_up.Given as goal
+
+abbrev pub invariant-loop-i : goal.invariant-loop-i
+invariant-loop-i g l = record {
+  raised : Raised (g.K.TreeOp.upward l.op) l.parts l.i l.stack.items l.out.items;
+  within : l.i ≤ length l.parts;
+}
+
+abbrev pub decreases-loop-i : goal.decreases-loop-i
+decreases-loop-i g l = l.i

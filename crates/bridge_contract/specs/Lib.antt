@@ -1,0 +1,11 @@
+pub mod Summaries
+pub mod Pending
+pub mod Stacked
+pub mod Bridged
+pub mod SumsOf
+pub mod Downs
+pub mod Dropped
+pub mod DownsOf
+pub mod Ways
+pub mod OwnNodes
+pub mod Passing

@@ -1,0 +1,49 @@
+//! The values at the roots of bridges.
+
+ghost use Rattle.std.specs.Prelude.{◌≡◌, ℕ, ◌+◌, ◌-◌, ◌<◌, ◌≤◌, ◌^◌, IfOk, length, ◌++◌, ◌∷◌, []};
+ghost use Rattle.bridge_contract.specs.Bridged.{AreBridged, AreUps, CanRaise, Raises};
+
+use crate::contraction::taken;
+use crate::summary::Summary;
+use op_laws::TreeOp;
+use std::alloc::{AllocError, Global};
+
+// The value of a part over those that it takes from the stack, and its weight.
+#[inline(always)]
+fn raise<K: TreeOp>(op: &K, part: Summary<K::V, K::G>, stack: &mut Vec<(K::V, u32)>) -> (K::V, u32)
+    requires { CanRaise (K.fits op.now) (K.fits_hole op.now) part stack.old.items }
+    ensures { Raises (K.upward op.now) part stack.old.items stack.new.items result }
+{
+    match part {
+        Summary::Value { v, n } => (v, n),
+        Summary::Hole { g, n } => {
+            let x = taken(stack);
+            let y = taken(stack);
+            (op.psi_n(x.0, x.1, g, n, y.0, y.1), x.1 + n + y.1)
+        }
+    }
+}
+
+/// The value at each part's root, from the parts alone. They are the preorder of a full binary
+/// tree, whose leaves are those with a value. It goes over them once, from the last to the first,
+/// with a stack.
+pub fn join_up<K: TreeOp>(
+    alloc: Global,
+    op: &K,
+    parts: &[Summary<K::V, K::G>],
+) -> Result<Vec<K::V>, AllocError>
+    requires { AreBridged (K.fits op.now) (K.fits_hole op.now) parts.now }
+    ensures { IfOk result (λ v. AreUps (K.upward op.now) parts.now v.items) }
+{
+    let mut stack: Vec<(K::V, u32)> = Vec::new(alloc);
+    let mut out: Vec<K::V> = Vec::new(alloc);
+    let mut i = parts.len();
+    while i > 0 {
+        i -= 1;
+        let raised = raise(op, parts[i], &mut stack);
+        stack.push(raised)?;
+        out.push(raised.0)?;
+    }
+    out.reverse();
+    Ok(out)
+}
