@@ -1,0 +1,4 @@
+pub mod HeadLemmas
+pub mod StageLemmas
+pub mod BlockLemmas
+pub mod ScanLemmas

@@ -1,0 +1,16 @@
+use Rattle.std.proofs.Common.{◌≡◌, ◌+◌, ◌-◌, IfSome, reverse}
+use Rattle.std.specs.List.{All}
+use Rattle.op_laws.specs.Admits.{Admits}
+use Rattle.op_laws.specs.Folds.{fold_of, beside}
+use Rattle.list_fusion.specs.Pipes.{type_of, block_of}
+use Rattle.list_fusion.specs.Scans.{scanr_before}
+use Rattle.list_fusion.proofs.scan.scan_back.Given as goal
+
+abbrev pub invariant-loop-k : goal.invariant-loop-k
+invariant-loop-k g l = record {
+  ty : l.list.ty ≡ g.M.Lifted.gives l.op (type_of l.pipe);
+  value : l.held ≡ beside (g.M.Semi.combined l.op) (fold_of (g.M.Lifted.lifted l.op) (g.M.Semi.combined l.op) (block_of l.pipe (l.to - l.k) l.to)) l.fn.behind;
+  fits : IfSome l.held (λ c. g.M.Lifted.fits l.op c (l.nb + l.k));
+  items : l.list.items ≡ reverse (scanr_before (g.M.Lifted.finished l.op) (g.M.Lifted.lifted l.op) (g.M.Semi.combined l.op) l.fn.behind (block_of l.pipe (l.to - l.k) l.to));
+  admitted : All (Admits (type_of l.pipe)) (block_of l.pipe (l.to - l.k) l.to);
+}

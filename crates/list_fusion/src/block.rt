@@ -1,0 +1,62 @@
+//! Folds of blocks, and blocks as lists.
+
+ghost use Rattle.std.specs.Prelude.{◌≡◌, ◌+◌, ◌-◌, ◌<◌, ◌≤◌, ◌++◌, length, IfOk, IfSome, OnOk};
+ghost use Rattle.std.specs.List.{All};
+ghost use Rattle.std.specs.Option.{option_to_list};
+ghost use Rattle.op_laws.specs.declared.TheConstants.{MAX_ELEMENTS as MOST};
+ghost use Rattle.op_laws.specs.Admits.{Admits};
+ghost use Rattle.op_laws.specs.Folds.{fold_of};
+ghost use Rattle.list_fusion.specs.Pipes.{type_of, block_of};
+
+use crate::combining::advanced;
+use crate::pipe::Pipe;
+use op_laws::{List, Semi, Tup};
+use std::alloc::{AllocError, Global};
+
+/// The values of a block's elements, combined in order; none where the block keeps no element. The
+/// block is what the stages make of the head's places from `from` up to before `to`, counted in the
+/// pipe's direction. The value's weight is the count of these places. It takes no memory and builds
+/// no list.
+pub fn fold_block<M: Semi>(pipe: &Pipe, op: &M, from: u32, to: u32) -> Option<M::C>
+    requires takes { M.takes op.now (type_of pipe.now) }
+    requires ordered { from ≤ to }
+    requires within { to ≤ length pipe.now.head.items }
+    ensures value { result ≡ fold_of (M.lifted op.now) (M.combined op.now) (block_of pipe.now from to) }
+    ensures fits { IfSome result (λ c. M.fits op.now c (to - from)) }
+    // By this it is known of a whole list whose blocks were folded that the operator takes it.
+    ensures admitted { All (Admits (type_of pipe.now)) (block_of pipe.now from to) }
+{
+    let mut held = None;
+    for i in from..to {
+        held = advanced(op, held, i - from, pipe.element(i));
+    }
+    held
+}
+
+/// A block's elements as a list.
+pub fn build_block(alloc: Global, pipe: &Pipe, from: u32, to: u32) -> Result<List, AllocError>
+    requires ordered { from ≤ to }
+    requires within { to ≤ length pipe.now.head.items }
+    ensures ty { IfOk result (λ x. x.ty ≡ type_of pipe.now) }
+    ensures items { IfOk result (λ x. x.items ≡ block_of pipe.now from to) }
+{
+    let mut list = List::new(alloc, pipe.ty());
+    for i in from..to {
+        add(&mut list, pipe.element(i))?;
+    }
+    Ok(list)
+}
+
+// Adds the element, if there is one.
+#[inline(always)]
+pub(crate) fn add(list: &mut List, e: Option<Tup>) -> Result<(), AllocError>
+    requires admitted { IfSome e (Admits list.old.ty) }
+    requires room { length list.old.items < MOST }
+    ensures items { OnOk result (list.new.items ≡ list.old.items ++ option_to_list e) }
+    ensures ty { list.new.ty ≡ list.old.ty }
+{
+    match e {
+        None => Ok(()),
+        Some(e) => list.push(e),
+    }
+}

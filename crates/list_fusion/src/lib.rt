@@ -1,0 +1,19 @@
+//! Pipes of maps and filters over a list, and what their blocks come to with no list in between.
+#![tactic(auto)]
+
+mod block;
+mod combining;
+mod cuts;
+mod head;
+mod pipe;
+mod scan;
+mod stage;
+#[cfg(test)]
+mod tests;
+
+pub use block::{build_block, fold_block};
+pub use cuts::blocks_follow;
+pub use head::Head;
+pub use pipe::Pipe;
+pub use scan::scan_block;
+pub use stage::Stage;

@@ -1,0 +1,149 @@
+//! Pipes: elements, and the stages that they go through.
+
+ghost use Rattle.std.specs.Prelude.{◌≡◌, ◌<◌, [], false, not, length, map, reverse, slice_index_or, OnOk, OnErr, IfSome};
+ghost use Rattle.std.specs.List.{filter};
+ghost use Rattle.op_laws.specs.Admits.{Admits};
+ghost use Rattle.scalar_expr.specs.Values.{values_of};
+ghost use Rattle.list_fusion.specs.declared.stage.Stage.TheVariants.{Map, Keep};
+ghost use Rattle.list_fusion.specs.Heads.{head_of, CanBeHead};
+ghost use Rattle.list_fusion.specs.Stages.{is_kept};
+ghost use Rattle.list_fusion.specs.Pipes.{elements, type_of, places, with_stage};
+ghost use Rattle.list_fusion.specs.Through.{through};
+
+use crate::head::Head;
+use crate::stage::Stage;
+use op_laws::{ElemType, Tup};
+use scalar_expr::Typed;
+use std::alloc::{AllocError, Global};
+use std::marker::Model;
+
+/// Elements, the stages that they go through, and the direction. Nothing is computed until a block
+/// is asked for.
+#[derive(Drop, Debug)]
+pub struct Pipe<'a> {
+    head: Head<'a>,
+    len: u32,
+    stages: Vec<Stage>,
+    ty: ElemType,
+    reversed: bool,
+}
+
+impl<'a> Model for Pipe<'a> {
+    ghost use Rattle.std.specs.Coded.{codes};
+    ghost use Rattle.scalar_expr.specs.Codes.{function_code};
+    ghost use Rattle.list_fusion.specs.Pipes.{Flow};
+
+    ghost Value = { Flow };
+
+    ghost coded = { Prim.hlevel (codes, function_code) };
+
+    ghost use Rattle.list_fusion.specs.Heads.{head_of};
+    ghost use Rattle.list_fusion.specs.Kept.{IsPipe};
+
+    ghost view = { λ p. record { head = head_of p.head; stages = p.stages.items; reversed = p.reversed } };
+
+    ghost invariant = { λ p. IsPipe p.head p.len p.stages.items p.ty };
+}
+
+impl<'a> Pipe<'a> {
+    /// The elements of a head, as they are. Of two lists, both are equally long and have at most 4
+    /// components together. It takes no memory.
+    pub fn of(alloc: Global, head: Head<'a>) -> Pipe<'a>
+        requires { CanBeHead head }
+        ensures { result ≡ record { head = head_of head.entry; stages = []; reversed = false } }
+    {
+        let len = head.len();
+        let ty = head.ty();
+        Pipe {
+            head,
+            len,
+            stages: Vec::new(alloc),
+            ty,
+            reversed: false,
+        }
+    }
+
+    /// Maps each element by a function that takes the pipe's type.
+    pub fn map(&mut self, f: Typed) -> Result<(), AllocError>
+        requires { f.takes ≡ type_of self.old }
+        ensures ok { OnOk result (self.new ≡ with_stage self.old (Map f)) }
+        ensures elements { OnOk result (elements self.new ≡ map (values_of f.scalars) (elements self.old)) }
+        ensures err { OnErr result (self.new ≡ self.old) }
+    {
+        let ty = f.gives();
+        self.stages.push(Stage::Map(f))?;
+        self.ty = ty;
+        Ok(())
+    }
+
+    /// Keeps the elements where a function isn't 0. It takes the pipe's type and gives one number.
+    pub fn keep(&mut self, f: Typed) -> Result<(), AllocError>
+        requires takes { f.takes ≡ type_of self.old }
+        requires single { length f.gives ≡ 1 }
+        ensures ok { OnOk result (self.new ≡ with_stage self.old (Keep f)) }
+        ensures elements { OnOk result (elements self.new ≡ filter (is_kept f.scalars) (elements self.old)) }
+        ensures err { OnErr result (self.new ≡ self.old) }
+    {
+        self.stages.push(Stage::Keep(f))?;
+        Ok(())
+    }
+
+    /// Turns the pipe round: the last element becomes the first.
+    pub fn rev(&mut self)
+        ensures same { self.new ≡ record self.old { reversed = not self.old.reversed } }
+        ensures elements { elements self.new ≡ reverse (elements self.old) }
+    {
+        self.reversed = !self.reversed;
+    }
+
+    /// The type of the pipe's elements.
+    #[inline(always)]
+    pub fn ty(&self) -> ElemType
+        ensures { result ≡ type_of self.now }
+    {
+        self.ty
+    }
+
+    /// How many elements the head has: at least as many as the pipe.
+    #[inline(always)]
+    pub fn head_len(&self) -> u32
+        ensures { result ≡ length self.now.head.items }
+    {
+        self.len
+    }
+
+    // The head's element at place `i`, counted in the pipe's direction.
+    #[inline(always)]
+    pub(crate) fn place(&self, i: u32) -> Tup
+        requires { i < length self.now.head.items }
+        ensures value { result ≡ slice_index_or (places self.now) i [] }
+        ensures admitted { Admits self.now.head.ty result }
+    {
+        let at = if self.reversed { self.len - 1 - i } else { i };
+        self.head.at(at)
+    }
+
+    // What the stages make of an element of the head, if they keep it.
+    #[inline(always)]
+    pub(crate) fn pass(&self, e: Tup) -> Option<Tup>
+        requires { Admits self.now.head.ty e }
+        ensures value { result ≡ through self.now.stages e }
+        ensures admitted { IfSome result (Admits (type_of self.now)) }
+    {
+        let mut e = e;
+        for stage in &self.stages {
+            e = stage.apply(e)?;
+        }
+        Some(e)
+    }
+
+    // What the stages make of the head's element at place `i`, if they keep it.
+    #[inline(always)]
+    pub(crate) fn element(&self, i: u32) -> Option<Tup>
+        requires { i < length self.now.head.items }
+        ensures value { result ≡ through self.now.stages (slice_index_or (places self.now) i []) }
+        ensures admitted { IfSome result (Admits (type_of self.now)) }
+    {
+        self.pass(self.place(i))
+    }
+}

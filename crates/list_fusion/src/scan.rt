@@ -1,0 +1,116 @@
+//! Scans of blocks.
+
+ghost use Rattle.std.specs.Prelude.{◌≡◌, ◌+◌, ◌-◌, ◌<◌, ◌≤◌, ◌++◌, length, IfOk, IfSome};
+ghost use Rattle.std.specs.Prelude.{List as Seq};
+ghost use Rattle.op_laws.specs.declared.TheConstants.{MAX_ELEMENTS as MOST};
+ghost use Rattle.op_laws.specs.declared.width.Width.{Width as Kind};
+ghost use Rattle.op_laws.specs.Admits.{Admits};
+ghost use Rattle.list_fusion.specs.Pipes.{type_of, block_of};
+ghost use Rattle.list_fusion.specs.Scans.{scan_after, scanr_before, scan_beside};
+ghost use Rattle.list_fusion.specs.Held.{told_of};
+
+use crate::block::add;
+use crate::combining::{advanced, preceded};
+use crate::pipe::Pipe;
+use op_laws::{List, Semi, Tup};
+use std::alloc::{AllocError, Global};
+
+/// For each element of a block, in order, the finished value of the elements up to it with `before`
+/// in front; with `back` of the elements from it on, and `before` stands behind them. `before` has
+/// the weight `nb`. Where the block keeps no element the list is empty.
+pub fn scan_block<M: Semi>(
+    alloc: Global,
+    pipe: &Pipe,
+    op: &M,
+    before: Option<M::C>,
+    nb: u32,
+    from: u32,
+    to: u32,
+    back: bool,
+) -> Result<List, AllocError>
+    requires takes { M.takes op.now (type_of pipe.now) }
+    requires before { IfSome before (λ c. M.fits op.now c nb) }
+    requires ordered { from ≤ to }
+    requires within { to ≤ length pipe.now.head.items }
+    requires few { nb + (to - from) ≤ MOST }
+    ensures ty { IfOk result (λ x. x.ty ≡ M.gives op.now (type_of pipe.now)) }
+    ensures items { IfOk result (λ x. x.items ≡ scan_beside (M.finished op.now) (M.lifted op.now) (M.combined op.now) back before (block_of pipe.now from to)) }
+{
+    if back {
+        scan_back(alloc, pipe, op, before, nb, from, to)
+    } else {
+        scan_on(alloc, pipe, op, before, nb, from, to)
+    }
+}
+
+fn scan_on<M: Semi>(
+    alloc: Global,
+    pipe: &Pipe,
+    op: &M,
+    before: Option<M::C>,
+    nb: u32,
+    from: u32,
+    to: u32,
+) -> Result<List, AllocError>
+    requires takes { M.takes op.now (type_of pipe.now) }
+    requires before { IfSome before (λ c. M.fits op.now c nb) }
+    requires ordered { from ≤ to }
+    requires within { to ≤ length pipe.now.head.items }
+    requires few { nb + (to - from) ≤ MOST }
+    ensures ty { IfOk result (λ x. x.ty ≡ M.gives op.now (type_of pipe.now)) }
+    ensures items { IfOk result (λ x. x.items ≡ scan_after (M.finished op.now) (M.lifted op.now) (M.combined op.now) before (block_of pipe.now from to)) }
+{
+    let mut list = List::new(alloc, op.result(pipe.ty()));
+    let mut held = before;
+    for i in from..to {
+        let e = pipe.element(i);
+        let kept = e.is_some();
+        held = advanced(op, held, nb + (i - from), e);
+        add(&mut list, told(op, kept, held, nb + (i - from) + 1))?;
+    }
+    Ok(list)
+}
+
+// From the last place to the first, so that each value needs one step, and then turned round.
+fn scan_back<M: Semi>(
+    alloc: Global,
+    pipe: &Pipe,
+    op: &M,
+    behind: Option<M::C>,
+    nb: u32,
+    from: u32,
+    to: u32,
+) -> Result<List, AllocError>
+    requires takes { M.takes op.now (type_of pipe.now) }
+    requires behind { IfSome behind (λ c. M.fits op.now c nb) }
+    requires ordered { from ≤ to }
+    requires within { to ≤ length pipe.now.head.items }
+    requires few { nb + (to - from) ≤ MOST }
+    ensures ty { IfOk result (λ x. x.ty ≡ M.gives op.now (type_of pipe.now)) }
+    ensures items { IfOk result (λ x. x.items ≡ scanr_before (M.finished op.now) (M.lifted op.now) (M.combined op.now) behind (block_of pipe.now from to)) }
+{
+    let mut list = List::new(alloc, op.result(pipe.ty()));
+    let mut held = behind;
+    for k in 0..to - from {
+        let e = pipe.element(to - 1 - k);
+        let kept = e.is_some();
+        held = preceded(op, e, held, nb + k);
+        add(&mut list, told(op, kept, held, nb + k + 1))?;
+    }
+    list.reverse();
+    Ok(list)
+}
+
+// The element that what is held stands for, where the last place kept one.
+#[inline(always)]
+fn told<M: Semi>(op: &M, kept: bool, held: Option<M::C>, n: u32) -> Option<Tup>
+    requires few { n ≤ MOST }
+    requires held { IfSome held (λ c. M.fits op.now c n) }
+    ensures value { result ≡ told_of (M.finished op.now) kept held }
+    ensures admitted { (ty : Seq Kind) → M.takes op.now ty → IfSome result (Admits (M.gives op.now ty)) }
+{
+    match held {
+        Some(c) if kept => Some(op.finish(c, n)),
+        _ => None,
+    }
+}
