@@ -1,3 +1,13 @@
-mod Rows
-pub mod TokenLemmas
-pub mod SourceLemmas
+pub mod RowWords
+pub mod FormRows
+pub mod NameRows
+pub mod TypeRows
+pub mod TypedRows
+pub mod ListLemmas
+pub mod NameLemmas
+pub mod GroupLemmas
+pub mod TypeLemmas
+pub mod FoldLemmas
+pub mod LeftLemmas
+pub mod SoundLemmas
+pub mod TextLemmas

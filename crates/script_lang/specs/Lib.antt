@@ -1,3 +1,10 @@
-pub mod Lines
-pub mod Runs
+pub mod Syntax
+pub mod Grammar
+pub mod Tables
+pub mod Steps
 pub mod Script
+pub mod Sound
+pub mod TypesText
+pub mod Views
+pub mod Groups
+pub mod Counts

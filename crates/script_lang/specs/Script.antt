@@ -1,51 +1,48 @@
--- A script that reduces a list: what its bytes are, with its operator and its two names.
-use Rattle.std.specs.Prelude.{◌≡◌, ◌≢◌, ◌≤◌, ℕ, not, List, [], ◌∷◌, length, map, codes, IsTrue, IsOk}
-use Rattle.op_laws.specs.declared.width.Width.TheVariants.{W64}
-use Rattle.op_catalog.specs.declared.list_op.ListOp.{ListOp}
-use Rattle.op_catalog.specs.Catalog.{name_of, is_end, typed_of}
-use Rattle.data_text.specs.Numbers.{is_name}
-use Rattle.script_lang.specs.Lines.{Source, sources_of}
+-- A script: its lines with what each name stands for, or its first fault.
+use Rattle.std.specs.Prelude.{◌≡◌, ℕ, List, [], ◌∷◌, ◌++◌, length, nat_lt, Result, Ok, Err, if◌then◌else◌}
+use Rattle.script_words.specs.Lines.{Token, Source, sources_of}
+use Rattle.script_words.specs.Read.{Read, ◌>>=◌}
+use Rattle.script_words.specs.Reading.{end_of}
+use Rattle.script_lang.specs.declared.fault.ScriptFault.{ScriptFault}
+use Rattle.script_lang.specs.declared.fault.ScriptFault.TheVariants as fault
+use Rattle.script_lang.specs.Syntax.{Statement}
+use Rattle.script_lang.specs.Grammar.{form_at}
+use Rattle.script_lang.specs.Steps.{line_of}
 
--- the name of the list that is read, the operator that reduces it, and the name of what it gives
-pub record Reduction : Type 0 where
-  pub input : List ℕ
-  pub op : ListOp
-  pub result : List ℕ
+-- what these words mean after earlier lines
+unfoldable pub line_at : List Statement → List Token → Read Statement
+line_at lines ts = do
+  f ← form_at (end_of ts) ts
+  line_of lines f
+
+-- a fault of the line of this number
+abbrev pub of_line : {X : Type 0} → ℕ → Read X → Result X ScriptFault
+of_line n (Ok x) = Ok x
+of_line n (Err s) = Err (fault.At n s.column s.what)
+
+abbrev pub and_then : {A B : Type 0} → Result A ScriptFault → (A → Result B ScriptFault) → Result B ScriptFault
+and_then (Ok x) f = f x
+and_then (Err e) f = Err e
+
+-- line after line
+unfoldable pub lines_at : List Statement → List Source → Result (List Statement) ScriptFault
+lines_at lines [] = Ok lines
+lines_at lines (s ∷ ss) = and_then (of_line s.number (line_at lines s.tokens)) (λ l. lines_at (lines ++ l ∷ []) ss)
 
 -- the most bytes that a script may have
 abbrev pub max_script : ℕ
 max_script = 65536
 
-abbrev pub texts : Source → List (List ℕ)
-texts s = map (λ t. t.text) s.tokens
+-- the script that these bytes are
+unfoldable pub script : List ℕ → Result (List Statement) ScriptFault
+script bytes = if nat_lt max_script (length bytes) then Err fault.Long else lines_at [] (sources_of bytes)
 
-abbrev pub input_line : List ℕ → List (List ℕ)
-input_line input = codes "input" ∷ input ∷ codes "list" ∷ []
+-- a fault that a call answered is the one that the definition gives, want of memory aside
+abbrev pub FailsIn : {Y : Type 0} → ScriptFault → Result Y ScriptFault → Type 0
+FailsIn fault.Memory read = Unit {0}
+FailsIn e read = read ≡ Err e
 
-abbrev pub reduce_line : Reduction → List (List ℕ)
-reduce_line r = codes "let" ∷ r.result ∷ codes "=" ∷ codes "reduce" ∷ name_of r.op ∷ r.input ∷ []
-
-abbrev pub print_line : List ℕ → List (List ℕ)
-print_line result = codes "print" ∷ result ∷ []
-
--- two different names
-pub record AreTwoNames (a b : List ℕ) : Type 0 where
-  pub first : IsTrue (is_name a)
-  pub second : IsTrue (is_name b)
-  pub differ : a ≢ b
-
--- it reduces each list of numbers of 64 bits, the empty one too
-pub record ReducesNumbers (op : ListOp) : Type 0 where
-  pub takes : IsOk (typed_of op (W64 ∷ []))
-  pub unit : IsTrue (not (is_end op))
-
--- lines that read a list, reduce it and print the result
-pub record IsReduceForm (lines : List Source) (r : Reduction) : Type 0 where
-  pub words : map texts lines ≡ input_line r.input ∷ reduce_line r ∷ print_line r.result ∷ []
-  pub two_names : AreTwoNames r.input r.result
-  pub operator : ReducesNumbers r.op
-
--- a script of such lines, comments and empty lines aside
-pub record IsReduceScript (bytes : List ℕ) (r : Reduction) : Type 0 where
-  pub short : length bytes ≤ max_script
-  pub lines : IsReduceForm (sources_of bytes) r
+-- what a call answered, seen by view, is what the definition gives, want of memory aside
+abbrev pub GivesIn : {X Y : Type 0} → (X → Y) → Result X ScriptFault → Result Y ScriptFault → Type 0
+GivesIn view (Ok x) read = read ≡ Ok (view x)
+GivesIn view (Err e) read = FailsIn e read

@@ -1,35 +1,30 @@
 //! From bytes to a script.
-ghost use Rattle.std.specs.Prelude.{◌≡◌, IfOk, IsErrOf};
-ghost use Rattle.script_lang.specs.Script.{Reduction, IsReduceScript};
+ghost use Rattle.std.specs.Prelude.{◌≡◌, map};
+ghost use Rattle.script_lang.specs.Script.{script, GivesIn};
+ghost use Rattle.script_lang.specs.Views.{statement_of};
 
 use crate::fault::ScriptFault;
-use crate::form::reduction_of;
+use crate::program::lines_at;
 use crate::script::Script;
-use crate::sources::sources_of;
-use data_text::Name;
+use script_words::sources_of;
 use std::alloc::Global;
 
 /// The most bytes that a script may have.
 pub const MAX_SCRIPT_BYTES: usize = 65_536;
 
-/// The script that these bytes are.
+/// The script that these bytes are, or its first fault.
 ///
-/// Time and memory are linear in the bytes: each line's words are kept as slices until the form is
-/// known, and only the two names are copied. Nothing is kept on an error.
+/// Each word is looked at a fixed number of times. A name is looked for by going over the earlier
+/// lines, of which a script has fewer than 5,000; so a script of short lines takes some ten million
+/// comparisons of names at most. Nothing is kept on an error.
+#[tactic(auto, unfolding(crate::specs::Script::script), using(crate::proofs::SoundLemmas::all_typed))]
 pub fn read_script(alloc: Global, bytes: &[u8]) -> Result<Script, ScriptFault>
-    ensures built { IfOk result (λ s. IsReduceScript bytes.now s) }
-    ensures only { IfOk result (λ s. (r : Reduction) → IsReduceScript bytes.now r → r ≡ s) }
-    ensures not_built { IsErrOf result ScriptFault.NotBuilt
-        → (r : Reduction) → IsReduceScript bytes.now r → ⊥ }
+    ensures { GivesIn (λ s. map statement_of s) result (script bytes.now) }
 {
     if bytes.len() > MAX_SCRIPT_BYTES {
-        return Err(ScriptFault::NotBuilt);
+        return Err(ScriptFault::Long);
     }
-    let lines = sources_of(alloc, bytes)?;
-    let Some(found) = reduction_of(&lines) else {
-        return Err(ScriptFault::NotBuilt);
-    };
-    let input = Name::of(alloc, found.input)?;
-    let reduced = Name::of(alloc, found.result)?;
-    Ok(Script::new(input, found.op, reduced))
+    let sources = sources_of(alloc, bytes)?;
+    let lines = lines_at(alloc, &sources)?;
+    Ok(Script::new(lines))
 }

@@ -1,63 +1,65 @@
-//! A script that reduces a list.
-ghost use Rattle.std.specs.Prelude.{◌≡◌};
-ghost use Rattle.script_lang.specs.Script.{ReducesNumbers};
+//! Typed scripts.
+ghost use Rattle.std.specs.Prelude.{◌≡◌, ◌<◌, ◌^◌, length, map, slice_get, Some};
+ghost use Rattle.script_lang.specs.Views.{statement_of};
+ghost use Rattle.script_lang.specs.Sound.{IsTypedScript};
 
-use data_text::Name;
-use op_catalog::ListOp;
+use crate::line::Line;
 use std::marker::Model;
 
-/// A script of the three lines `input A list`, `let B = reduce OP A` and `print B`. It is seen as
-/// its two names and its operator.
-#[derive(Debug, Drop)]
+/// A script whose names, kinds, types and shapes fit. It is seen as the list of its lines.
+#[derive(Drop)]
 pub struct Script {
-    input: Name,
-    op: ListOp,
-    result: Name,
+    lines: Vec<Line>,
 }
 
 impl Model for Script {
-    ghost use Rattle.script_lang.specs.Script.{Reduction};
+    ghost use Rattle.std.specs.Prelude.{List, ◌<◌, ◌^◌, length, map};
+    ghost use Rattle.std.specs.Coded.{codes};
+    ghost use Rattle.script_lang.specs.declared.line.Line.{Line};
+    ghost use Rattle.script_lang.specs.contracts.line.Line as e;
+    ghost use Rattle.script_lang.specs.Views.{statement_of};
+    ghost use Rattle.script_lang.specs.Sound.{IsTypedScript};
 
-    ghost Value = { Reduction };
+    ghost Value = { List Line };
 
-    ghost use Rattle.script_lang.specs.Script.{ReducesNumbers};
+    ghost coded = { Prim.hlevel (codes, e.the_row.coded) };
 
-    ghost view = { λ s. record { input = s.input; op = s.op; result = s.result } };
+    ghost view = { λ s. s.lines.items };
 
-    ghost invariant = { λ s. ReducesNumbers s.op };
+    ghost invariant = { λ s. (length s.lines.items < 2 ^ 32) × IsTypedScript (map statement_of s.lines.items) };
 }
 
 impl Script {
-    pub(crate) fn new(input: Name, op: ListOp, reduced: Name) -> Script
-        requires { ReducesNumbers op }
-        ensures { result ≡ record { input = input; op = op; result = reduced } }
+    pub(crate) fn new(lines: Vec<Line>) -> Script
+        requires few { length lines.items < 2 ^ 32 }
+        requires typed { IsTypedScript (map statement_of lines.items) }
+        ensures { result ≡ lines.items }
     {
-        Script {
-            input,
-            op,
-            result: reduced,
-        }
+        Script { lines }
     }
 
-    /// A, the name of the list that is read.
-    pub fn input(&self) -> &Name
-        ensures { result.now ≡ self.now.input }
+    /// The lines, in order.
+    pub fn as_slice(&self) -> &[Line]
+        ensures lines { result.now ≡ self.now }
+        ensures typed { IsTypedScript (map statement_of self.now) }
     {
-        &self.input
+        &self.lines
     }
 
-    /// OP, which takes each list of numbers of 64 bits, the empty one too.
-    pub fn op(&self) -> ListOp
-        ensures value { result ≡ self.now.op }
-        ensures takes { ReducesNumbers result }
+    /// How many lines are neither empty nor comments.
+    pub fn lines(&self) -> u32
+        ensures count { result ≡ length self.now }
+        ensures typed { IsTypedScript (map statement_of self.now) }
     {
-        self.op
+        self.lines.len() as u32
     }
 
-    /// B, the name of what the list is reduced to.
-    pub fn result(&self) -> &Name
-        ensures { result.now ≡ self.now.result }
+    /// The line of this number, from 0 on.
+    pub fn line(&self, i: u32) -> &Line
+        requires within { i < length self.now }
+        ensures value { slice_get self.now i ≡ Some result.now }
+        ensures typed { IsTypedScript (map statement_of self.now) }
     {
-        &self.result
+        &self.lines[i as usize]
     }
 }

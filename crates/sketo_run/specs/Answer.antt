@@ -8,7 +8,7 @@ use Rattle.data_text.specs.declared.value.Value.TheVariants.{Single}
 use Rattle.data_text.specs.declared.value.Named.{Named}
 use Rattle.data_text.specs.declared.data_fault.DataFault.{DataFault}
 use Rattle.data_text.specs.Data.{Section, sections_of}
-use Rattle.script_lang.specs.Script.{Reduction, IsReduceScript}
+use Rattle.sketo_run.specs.Reductions.{Reduction, IsReduceScript}
 use Rattle.sketo_run.specs.declared.inputs.FitFault.{FitFault}
 use Rattle.sketo_run.specs.Fit.{input_of}
 
@@ -46,11 +46,3 @@ pub record IsAnswer (script input : List ℕ) (answer : Named) : Type 0 where
 pub record IsRefused (script input : List ℕ) (reduction : Reduction) (refusal : DataRefusal) : Type 0 where
   pub script_form : IsReduceScript script reduction
   pub data_form : numbers_in reduction (sections_of input) ≡ Err refusal
-
--- a script of the form that is built
-abbrev pub IsBuilt : List ℕ → Type 0
-IsBuilt script = (r : Reduction) × IsReduceScript script r
-
--- a script of another form
-abbrev pub IsNotBuilt : List ℕ → Type 0
-IsNotBuilt script = (r : Reduction) → IsReduceScript script r → ⊥

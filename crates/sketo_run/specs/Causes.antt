@@ -1,39 +1,63 @@
 -- Why a run of data has no answer, by how it stops. No public clause cites this file.
 use Rattle.std.specs.Prelude.{◌≡◌, ℕ, List, Err, ⊤}
 use Rattle.data_text.specs.Data.{Section}
-use Rattle.script_lang.specs.Script.{Reduction, IsReduceScript}
+use Rattle.script_lang.specs.Script.{script}
 use Rattle.sketo_run.specs.declared.stop.Stop.{Stop}
 use Rattle.sketo_run.specs.declared.stop.Stop.TheVariants as stop
 use Rattle.sketo_run.specs.Fit.{input_of}
+use Rattle.sketo_run.specs.Reductions.{Reduction, IsReduceScript, IsBuilt, IsNotBuilt}
 use Rattle.sketo_run.specs.Answer.{faulty, unfit, IsRefused}
 
 -- a script's bytes stop a run only where they can't be read, or for want of memory
 abbrev pub IsReadStop : Stop → Type 0
 IsReadStop stop.ScriptUnread = ⊤
 IsReadStop stop.NoMemory = ⊤
-IsReadStop stop.DataUnread = ⊥
-IsReadStop (stop.BadData fault) = ⊥
-IsReadStop (stop.Unfit fault name) = ⊥
-IsReadStop stop.NotBuilt = ⊥
+IsReadStop stop = ⊥
+
+-- a script stops a run where it can't be read or is refused, or for want of memory
+abbrev pub IsRefusalOf : Stop → List ℕ → Type 0
+IsRefusalOf stop.ScriptUnread bytes = ⊤
+IsRefusalOf stop.NoMemory bytes = ⊤
+IsRefusalOf (stop.BadScript fault) bytes = script bytes ≡ Err fault
+IsRefusalOf stop bytes = ⊥
+
+-- what is known of a script by how its run stops: before the data is read, or after it
+abbrev pub IsScriptOf : Stop → List ℕ → Type 0
+IsScriptOf stop.ScriptUnread bytes = ⊤
+IsScriptOf stop.NoMemory bytes = ⊤
+IsScriptOf (stop.BadScript fault) bytes = script bytes ≡ Err fault
+IsScriptOf stop.NotBuilt bytes = IsNotBuilt bytes
+IsScriptOf stop bytes = IsBuilt bytes
+
+-- the form of a script stops a run only where it isn't built, or for want of memory
+abbrev pub IsFormStop : Stop → Type 0
+IsFormStop stop.NotBuilt = ⊤
+IsFormStop stop.NoMemory = ⊤
+IsFormStop stop = ⊥
+
+-- a script stops a check
+abbrev pub IsOfScript : Stop → Type 0
+IsOfScript stop.ScriptUnread = ⊤
+IsOfScript stop.NoMemory = ⊤
+IsOfScript (stop.BadScript fault) = ⊤
+IsOfScript stop = ⊥
+
+-- a script stops a run before the data is read
+abbrev pub IsEarly : Stop → Type 0
+IsEarly stop.ScriptUnread = ⊤
+IsEarly stop.NoMemory = ⊤
+IsEarly (stop.BadScript fault) = ⊤
+IsEarly stop.NotBuilt = ⊤
+IsEarly stop = ⊥
 
 -- sections that were read stop a run only where they don't fit, or for want of memory
 abbrev pub IsUnfit : Reduction → List Section → Stop → Type 0
 IsUnfit r sections stop.NoMemory = ⊤
 IsUnfit r sections (stop.Unfit fault name) = (input_of r sections ≡ Err fault) × (name ≡ r.input)
-IsUnfit r sections stop.ScriptUnread = ⊥
-IsUnfit r sections stop.DataUnread = ⊥
-IsUnfit r sections (stop.BadData fault) = ⊥
-IsUnfit r sections stop.NotBuilt = ⊥
-
--- the script has no other reading
-abbrev pub IsOnlyReduction : List ℕ → Reduction → Type 0
-IsOnlyReduction script r = (other : Reduction) → IsReduceScript script other → other ≡ r
+IsUnfit r sections stop = ⊥
 
 -- data that is refused
 abbrev pub IsCauseOf : Stop → List ℕ → List ℕ → Type 0
-IsCauseOf (stop.BadData fault) script input = (r : Reduction) × IsRefused script input r (faulty fault) × IsOnlyReduction script r
-IsCauseOf (stop.Unfit fault name) script input = (r : Reduction) × IsRefused script input r (unfit fault) × IsOnlyReduction script r × (name ≡ r.input)
-IsCauseOf stop.ScriptUnread script input = ⊤
-IsCauseOf stop.DataUnread script input = ⊤
-IsCauseOf stop.NoMemory script input = ⊤
-IsCauseOf stop.NotBuilt script input = ⊤
+IsCauseOf (stop.BadData fault) script input = (r : Reduction) × IsRefused script input r (faulty fault)
+IsCauseOf (stop.Unfit fault name) script input = (r : Reduction) × IsRefused script input r (unfit fault) × (name ≡ r.input)
+IsCauseOf stop script input = ⊤

@@ -1,12 +1,16 @@
 -- How a run may end.
-use Rattle.std.specs.Prelude.{◌≡◌, ◌≢◌, ℕ, ◌⊎◌, List, Option, IfSome, IsSomeAnd}
+use Rattle.std.specs.Prelude.{◌≡◌, ◌≢◌, ℕ, ◌⊎◌, List, Option, Ok, Err, IfSome, IsSomeAnd}
 use Rattle.outside.specs.Outside.{Rose, Appends, AppendsFront}
 use Rattle.data_text.specs.declared.value.Named.{Named}
 use Rattle.data_text.specs.Printed.{text_of}
-use Rattle.script_lang.specs.Script.{Reduction}
+use Rattle.script_lang.specs.declared.fault.ScriptFault.{ScriptFault}
+use Rattle.script_lang.specs.Syntax.{Statement}
+use Rattle.script_lang.specs.Script.{script}
+use Rattle.script_lang.specs.TypesText.{types_text}
+use Rattle.sketo_run.specs.Reductions.{Reduction, IsBuilt}
 use Rattle.sketo_run.specs.Commands.{Files}
-use Rattle.sketo_run.specs.Report.{IsReported, data_line}
-use Rattle.sketo_run.specs.Answer.{IsAnswer, IsRefused, DataRefusal, IsBuilt}
+use Rattle.sketo_run.specs.Report.{IsReported, script_line, data_line}
+use Rattle.sketo_run.specs.Answer.{IsAnswer, IsRefused, DataRefusal}
 
 -- P of the contents of both files, where both are told
 abbrev pub WhereTold : (List ℕ → Option (List ℕ)) → Files → (List ℕ → List ℕ → Type 0) → Type 0
@@ -16,9 +20,17 @@ WhereTold content files P = IfSome (content files.script) (λ script. IfSome (co
 abbrev pub AreTold : (List ℕ → Option (List ℕ)) → Files → (List ℕ → List ℕ → Type 0) → Type 0
 AreTold content files P = IsSomeAnd (content files.script) (λ script. IsSomeAnd (content files.input) (λ input. P script input))
 
--- of a run: answered, the data is refused, a read failed, a write failed, memory was refused, or a form isn't built
+-- of a run or a check of a script that is at fault: the script is refused, a read failed, or memory was refused
+abbrev pub IsRefusedStatus : ℕ → Type 0
+IsRefusedStatus n = (n ≡ 3) ⊎ ((n ≡ 5) ⊎ (n ≡ 7))
+
+-- of a check: answered, the script is refused, a read failed, a write failed, or memory was refused
+abbrev pub IsCheckStatus : ℕ → Type 0
+IsCheckStatus n = (n ≡ 0) ⊎ ((n ≡ 3) ⊎ ((n ≡ 5) ⊎ ((n ≡ 6) ⊎ (n ≡ 7))))
+
+-- of a run: those, and that the data is refused, or a form isn't built
 abbrev pub IsRunStatus : ℕ → Type 0
-IsRunStatus n = (n ≡ 0) ⊎ ((n ≡ 4) ⊎ ((n ≡ 5) ⊎ ((n ≡ 6) ⊎ ((n ≡ 7) ⊎ (n ≡ 8)))))
+IsRunStatus n = IsCheckStatus n ⊎ ((n ≡ 4) ⊎ (n ≡ 8))
 
 -- those, and that the words are refused
 abbrev pub IsStatus : ℕ → Type 0
@@ -31,6 +43,19 @@ IsPrinted before after script input = (answer : Named) × IsAnswer script input 
 -- a front of the text of the answer went out
 abbrev pub IsPrintedInPart : Option (List ℕ) → Option (List ℕ) → List ℕ → List ℕ → Type 0
 IsPrintedInPart before after script input = (answer : Named) × IsAnswer script input answer × AppendsFront before after (text_of answer)
+
+-- the types of a script's names went out
+abbrev pub AreTypesPrinted : Option (List ℕ) → Option (List ℕ) → List ℕ → Type 0
+AreTypesPrinted before after bytes = (lines : List Statement) × (script bytes ≡ Ok lines) × Appends before after (types_text lines)
+
+-- a front of them went out
+abbrev pub AreTypesPrintedInPart : Option (List ℕ) → Option (List ℕ) → List ℕ → Type 0
+AreTypesPrintedInPart before after bytes = (lines : List Statement) × (script bytes ≡ Ok lines) × AppendsFront before after (types_text lines)
+
+-- the script is refused, and the line of this file tells why
+abbrev pub IsScriptRefused : List ℕ → Option (List ℕ) → Option (List ℕ) → ℕ → ℕ → List ℕ → Type 0
+IsScriptRefused file before after faults faults' bytes =
+    (fault : ScriptFault) × (script bytes ≡ Err fault) × IsReported (script_line file fault) before after faults faults'
 
 -- the data is refused, and the line of this file tells why
 abbrev pub IsDataRefused : List ℕ → Option (List ℕ) → Option (List ℕ) → ℕ → ℕ → List ℕ → List ℕ → Type 0
@@ -49,4 +74,10 @@ pub record IsFaultless (content : List ℕ → Option (List ℕ)) (files : Files
   pub has_answer : AreTold content files (λ script input. (answer : Named) × IsAnswer script input answer)
   pub script_read : Rose (faults files.script) (faults' files.script) → ⊥
   pub input_read : Rose (faults files.input) (faults' files.input) → ⊥
+  pub written : Rose out out' → ⊥
+
+-- The script is told and accepted, and no count of faults rose: of the script and of output.
+pub record IsCheckFaultless (content : List ℕ → Option (List ℕ)) (file : List ℕ) (faults faults' : List ℕ → ℕ) (out out' : ℕ) : Type 0 where
+  pub accepted : IsSomeAnd (content file) (λ bytes. (lines : List Statement) × (script bytes ≡ Ok lines))
+  pub script_read : Rose (faults file) (faults' file) → ⊥
   pub written : Rose out out' → ⊥

@@ -1,7 +1,7 @@
 -- How data fits a script that reduces a list.
 use Rattle.std.specs.Prelude.{ℕ, List, [], ◌∷◌, Option, Some, None, Result, Ok, Err, if◌then◌else◌, bytes_eq, ℤ}
 use Rattle.data_text.specs.Data.{Content, single, many, grid, tree, rose, Section}
-use Rattle.script_lang.specs.Script.{Reduction}
+use Rattle.sketo_run.specs.Reductions.{Reduction}
 use Rattle.sketo_run.specs.declared.inputs.FitFault.{FitFault}
 use Rattle.sketo_run.specs.declared.inputs.FitFault.TheVariants.{NotThere, WrongKind}
 

@@ -4,6 +4,7 @@ pub mod Words
 pub mod Seen
 pub mod OperandTexts
 pub mod Given
+pub mod Reductions
 pub mod Fit
 pub mod Answer
 pub mod Report

@@ -2,7 +2,11 @@
 use Rattle.std.specs.Prelude.{ℕ, ◌⊎◌, List, [], ◌++◌, Option, codes, decimal}
 use Rattle.data_text.specs.declared.data_fault.DataFault.{DataFault}
 use Rattle.data_text.specs.declared.data_fault.DataFault.TheVariants.{BadWord, BadNumber, LongWord, LongGap, BadKind, TooMany, Short, Shape, Duplicate, TooManySections, Read, Memory}
-use Rattle.script_lang.specs.Script.{Reduction}
+use Rattle.sketo_run.specs.Reductions.{Reduction}
+use Rattle.script_words.specs.declared.fault.ScriptWhat.{ScriptWhat}
+use Rattle.script_words.specs.declared.fault.ScriptWhat.TheVariants as what
+use Rattle.script_lang.specs.declared.fault.ScriptFault.{ScriptFault}
+use Rattle.script_lang.specs.declared.fault.ScriptFault.TheVariants as script_fault
 use Rattle.sketo_run.specs.declared.inputs.FitFault.{FitFault}
 use Rattle.sketo_run.specs.declared.inputs.FitFault.TheVariants.{NotThere, WrongKind}
 use Rattle.sketo_run.specs.Answer.{DataRefusal, faulty, unfit}
@@ -23,6 +27,34 @@ no_memory = codes "memory: none\n"
 -- a form that isn't built yet
 abbrev pub not_built : List ℕ
 not_built = codes "stage: not built\n"
+
+-- what is wrong with a script
+abbrev pub what_text : ScriptWhat → List ℕ
+what_text what.BadLine = codes "bad line"
+what_text what.TooDeep = codes "too deep"
+what_text what.TooManyPrints = codes "too many prints"
+what_text what.UnknownName = codes "unknown name"
+what_text what.Rebound = codes "name used twice"
+what_text what.WrongKind = codes "wrong kind"
+what_text what.UnknownOp = codes "unknown operator"
+what_text what.WrongArity = codes "wrong arity"
+what_text what.TooWide = codes "too wide"
+what_text what.NoUnit = codes "no unit"
+what_text what.NotAbiding = codes "not abiding"
+what_text what.ShapeDiffers = codes "shape differs"
+what_text what.TupleTooLong = codes "tuple too long"
+
+abbrev pub place_line : List ℕ → List ℕ → List ℕ → List ℕ → List ℕ
+place_line file line column text = codes "script: " ++ file ++ codes ": line " ++ line ++ codes ", column " ++ column ++ codes ": " ++ text ++ codes "\n"
+
+abbrev pub long_line : List ℕ → List ℕ
+long_line file = codes "script: " ++ file ++ codes ": too long\n"
+
+-- a script is refused; want of memory has a line of its own
+abbrev pub script_line : List ℕ → ScriptFault → List ℕ
+script_line file script_fault.Long = long_line file
+script_line file (script_fault.At line column what) = place_line file (decimal line) (decimal column) (what_text what)
+script_line file script_fault.Memory = no_memory
 
 -- what is wrong at a byte of data
 abbrev pub fault_text : DataFault → List ℕ

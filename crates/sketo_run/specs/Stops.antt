@@ -9,11 +9,11 @@ use Rattle.sketo_run.specs.declared.stop.Stop.TheVariants as stop
 use Rattle.sketo_run.specs.declared.status.Status.{Status}
 use Rattle.sketo_run.specs.declared.status.Status.TheVariants as status
 use Rattle.sketo_run.specs.Commands.{Files}
-use Rattle.sketo_run.specs.Report.{read_failed, no_memory, not_built, fault_line, misfit_line}
+use Rattle.sketo_run.specs.Report.{read_failed, no_memory, not_built, script_line, fault_line, misfit_line}
 
 abbrev pub stop_of_script : ScriptFault → Stop
-stop_of_script script_fault.NotBuilt = stop.NotBuilt
 stop_of_script script_fault.Memory = stop.NoMemory
+stop_of_script fault = stop.BadScript fault
 
 abbrev pub stop_of_data : DataFault → Stop
 stop_of_data data_fault.Read = stop.DataUnread
@@ -24,6 +24,7 @@ stop_of_data fault = stop.BadData fault
 abbrev pub status_of : Stop → Status
 status_of stop.ScriptUnread = status.ReadFailed
 status_of stop.DataUnread = status.ReadFailed
+status_of (stop.BadScript fault) = status.ScriptRefused
 status_of (stop.BadData fault) = status.DataRefused
 status_of (stop.Unfit fault name) = status.DataRefused
 status_of stop.NoMemory = status.NoMemory
@@ -33,6 +34,7 @@ status_of stop.NotBuilt = status.NotBuilt
 abbrev pub line_of : Stop → Files → List ℕ
 line_of stop.ScriptUnread files = read_failed files.script
 line_of stop.DataUnread files = read_failed files.input
+line_of (stop.BadScript fault) files = script_line files.script fault
 line_of (stop.BadData fault) files = fault_line files.input fault
 line_of (stop.Unfit fault name) files = misfit_line files.input name fault
 line_of stop.NoMemory files = no_memory

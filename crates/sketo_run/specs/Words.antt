@@ -132,3 +132,20 @@ files_in answer = None
 
 abbrev pub run_files : List (List ℕ) → Option Files
 run_files words = files_in (command_line words)
+
+-- the script of a check, where the words ask for one
+abbrev pub checked_in : Result Command Refusal → Option (List ℕ)
+checked_in (Ok (check script)) = Some script
+checked_in answer = None
+
+abbrev pub check_file : List (List ℕ) → Option (List ℕ)
+check_file words = checked_in (command_line words)
+
+-- the script of a run or a check
+abbrev pub script_in : Result Command Refusal → Option (List ℕ)
+script_in (Ok (run files settings)) = Some files.script
+script_in (Ok (check script)) = Some script
+script_in answer = None
+
+abbrev pub script_file : List (List ℕ) → Option (List ℕ)
+script_file words = script_in (command_line words)

@@ -5,9 +5,9 @@ ghost use Rattle.op_laws.specs.declared.width.Width.TheVariants.{W64};
 ghost use Rattle.data_text.specs.Named.{section_of, content_of, first_of, IsOfW64};
 ghost use Rattle.sketo_run.specs.Fit.{content_under, as_list, input_of};
 
+use crate::reduction::Reduction;
 use data_text::{Sections, Value};
 use op_laws::List;
-use script_lang::Script;
 use thiserror::Error;
 
 /// How data doesn't fit a script. The number is that of the input line, counted from 0.
@@ -22,7 +22,7 @@ pub enum FitFault {
 }
 
 /// Whether the data has what the script reads, in the kind that it reads.
-pub fn fit(script: &Script, sections: &Sections) -> Result<(), FitFault>
+pub fn fit(script: &Reduction, sections: &Sections) -> Result<(), FitFault>
     ensures ok { IfOk result (λ _. (numbers : _) × (input_of script.now (map section_of sections.now) ≡ Ok numbers)) }
     ensures err { IfErr result (λ fault. input_of script.now (map section_of sections.now) ≡ Err fault) }
 {
@@ -31,7 +31,10 @@ pub fn fit(script: &Script, sections: &Sections) -> Result<(), FitFault>
 }
 
 /// The list that the script reads.
-pub(crate) fn input_list<'a>(script: &Script, sections: &'a Sections) -> Result<&'a List, FitFault>
+pub(crate) fn input_list<'a>(
+    script: &Reduction,
+    sections: &'a Sections,
+) -> Result<&'a List, FitFault>
     ensures numbers { IfOk result (λ list. input_of script.now (map section_of sections.now) ≡ Ok (map first_of list.now.items)) }
     ensures ty { IfOk result (λ list. list.now.ty ≡ W64 ∷ []) }
     ensures singles { IfOk result (λ list. list.now.items ≡ singles (map first_of list.now.items)) }

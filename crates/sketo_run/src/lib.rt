@@ -2,6 +2,7 @@
 #![tactic(auto)]
 
 mod answer;
+mod check;
 mod command;
 mod command_line;
 mod given;
@@ -9,10 +10,13 @@ mod inputs;
 mod item;
 mod number;
 mod operands;
+mod print;
+mod reduction;
 mod refusal;
 mod report;
 mod run;
 mod script_text;
+mod scripts;
 mod status;
 mod stop;
 mod top;

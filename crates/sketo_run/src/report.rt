@@ -2,7 +2,7 @@
 ghost use Rattle.std.specs.Prelude.{◌≡◌, ◌≤◌, OnOk, OnErr};
 ghost use Rattle.std.specs.List.{flat_map};
 ghost use Rattle.outside.specs.Outside.{Rose, Appends, AppendsFront};
-ghost use Rattle.sketo_run.specs.Report.{IsReported, read_failed, write_failed, no_memory, not_built, byte_line, fault_line, fault_text, fault_byte, name_line, misfit_line, misfit_text};
+ghost use Rattle.sketo_run.specs.Report.{IsReported, read_failed, write_failed, no_memory, not_built, byte_line, fault_line, fault_text, fault_byte, name_line, misfit_line, misfit_text, what_text, place_line, long_line, script_line};
 ghost use Rattle.sketo_run.specs.Stops.{line_of};
 ghost use Rattle.sketo_run.specs.Refusals.{refusal_line, word_line};
 ghost use Rattle.sketo_run.specs.Seen.{refusal_of};
@@ -11,6 +11,7 @@ use crate::inputs::FitFault;
 use crate::refusal::Refusal;
 use crate::stop::Stop;
 use data_text::{DataFault, Failed, Outlet, Sink};
+use script_lang::{ScriptFault, ScriptWhat};
 
 // A line of these parts.
 fn put_line<E: Sink>(err: &mut E, parts: &[&[u8]]) -> Result<(), Failed>
@@ -41,6 +42,85 @@ pub fn report_unwritten<E: Sink>(err: &mut E)
     ensures { IsReported write_failed (E.written err.old) (E.written err.new) (E.faults err.old) (E.faults err.new) }
 {
     report(err, &[b"write: failed\n"]);
+}
+
+// What is wrong with a script.
+fn what_text(what: ScriptWhat) -> &'static str
+    ensures { result.now ≡ what_text what }
+{
+    match what {
+        ScriptWhat::BadLine => "bad line",
+        ScriptWhat::TooDeep => "too deep",
+        ScriptWhat::TooManyPrints => "too many prints",
+        ScriptWhat::UnknownName => "unknown name",
+        ScriptWhat::Rebound => "name used twice",
+        ScriptWhat::WrongKind => "wrong kind",
+        ScriptWhat::UnknownOp => "unknown operator",
+        ScriptWhat::WrongArity => "wrong arity",
+        ScriptWhat::TooWide => "too wide",
+        ScriptWhat::NoUnit => "no unit",
+        ScriptWhat::NotAbiding => "not abiding",
+        ScriptWhat::ShapeDiffers => "shape differs",
+        ScriptWhat::TupleTooLong => "tuple too long",
+    }
+}
+
+// Tells what is wrong at a place of a script.
+fn report_place<'a, E: Sink>(
+    err: &mut E,
+    file: &'a str,
+    line: &'a str,
+    column: &'a str,
+    text: &'a str,
+)
+    ensures { IsReported (place_line file.entry.now line.entry.now column.entry.now text.entry.now) (E.written err.old) (E.written err.new) (E.faults err.old) (E.faults err.new) }
+{
+    report(
+        err,
+        &[
+            b"script: ",
+            file.as_bytes(),
+            b": line ",
+            line.as_bytes(),
+            b", column ",
+            column.as_bytes(),
+            b": ",
+            text.as_bytes(),
+            b"\n",
+        ],
+    );
+}
+
+fn report_long<E: Sink>(err: &mut E, file: &str)
+    ensures { IsReported (long_line file.now) (E.written err.old) (E.written err.new) (E.faults err.old) (E.faults err.new) }
+{
+    report(err, &[b"script: ", file.as_bytes(), b": too long\n"]);
+}
+
+fn report_no_memory<E: Sink>(err: &mut E)
+    ensures { IsReported no_memory (E.written err.old) (E.written err.new) (E.faults err.old) (E.faults err.new) }
+{
+    report(err, &[b"memory: none\n"]);
+}
+
+fn report_script<E: Sink>(err: &mut E, file: &str, fault: ScriptFault)
+    ensures { IsReported (script_line file.now fault) (E.written err.old) (E.written err.new) (E.faults err.old) (E.faults err.new) }
+{
+    match fault {
+        ScriptFault::Long => report_long(err, file),
+        ScriptFault::At { line, column, what } => {
+            let mut lines = itoa::Buffer::new();
+            let mut columns = itoa::Buffer::new();
+            report_place(
+                err,
+                file,
+                lines.format(line),
+                columns.format(column),
+                what_text(what),
+            );
+        }
+        ScriptFault::Memory => report_no_memory(err),
+    }
 }
 
 // What is wrong with data, and at which byte.
@@ -130,9 +210,10 @@ pub fn report_stop<E: Sink>(err: &mut E, stop: &Stop, script: &str, input: &str)
     match stop {
         Stop::ScriptUnread => report_unread(err, script),
         Stop::DataUnread => report_unread(err, input),
+        Stop::BadScript(fault) => report_script(err, script, *fault),
         Stop::BadData(fault) => report_fault(err, input, *fault),
         Stop::Unfit(fault, name) => report_misfit(err, input, name.bytes(), *fault),
-        Stop::NoMemory => report(err, &[b"memory: none\n"]),
+        Stop::NoMemory => report_no_memory(err),
         Stop::NotBuilt => report(err, &[b"stage: not built\n"]),
     }
 }

@@ -1,46 +1,17 @@
 //! A run: a script over data.
-ghost use Rattle.std.specs.Prelude.{◌≡◌, ◌⊎◌, ℕ, List, OnOk, OnErr, IfSome};
-ghost use Rattle.outside.specs.Outside.{Rose, NoneFell, Appends, AppendsFront};
-ghost use Rattle.data_text.specs.Printed.{text_of};
-ghost use Rattle.sketo_run.specs.Answer.{IsNotBuilt};
+ghost use Rattle.std.specs.Prelude.{◌≡◌, ◌⊎◌, ℕ, List, IfSome, IsErr};
+ghost use Rattle.outside.specs.Outside.{Rose, NoneFell};
+ghost use Rattle.script_lang.specs.Script.{script as language};
+ghost use Rattle.sketo_run.specs.Reductions.{IsNotBuilt};
 ghost use Rattle.sketo_run.specs.Report.{IsReported, read_failed, write_failed, no_memory, not_built};
 ghost use Rattle.sketo_run.specs.Commands.{Files};
-ghost use Rattle.sketo_run.specs.Ends.{WhereTold, IsPrinted, IsPrintedInPart, IsDataRefused, IsUnread, IsRunStatus, IsFaultless};
+ghost use Rattle.sketo_run.specs.Ends.{WhereTold, IsPrinted, IsPrintedInPart, IsScriptRefused, IsDataRefused, IsUnread, IsRunStatus, IsRefusedStatus, IsFaultless};
 
 use crate::answer::answer;
-use crate::report::{report_stop, report_unwritten};
-use crate::status::Status;
-use data_text::{Failed, Named, Outlet, Shelf, Sink, write_value};
+use crate::print::print;
+use crate::report::report_stop;
+use data_text::{Shelf, Sink};
 use std::alloc::Global;
-
-// Prints an answer.
-fn put_answer<O: Sink>(out: &mut O, answer: &Named) -> Result<(), Failed>
-    ensures ok { OnOk result (Appends (O.written out.old) (O.written out.new) (text_of answer.now)) }
-    ensures front { OnErr result (AppendsFront (O.written out.old) (O.written out.new) (text_of answer.now)) }
-    ensures cause { OnErr result (Rose (O.faults out.old) (O.faults out.new)) }
-{
-    let mut outlet = Outlet::new();
-    write_value(answer, &mut outlet, out)?;
-    outlet.finish(out)
-}
-
-// Prints an answer, or tells that it couldn't.
-fn print<O: Sink, E: Sink>(out: &mut O, err: &mut E, answer: &Named) -> Status
-    ensures status { (result ≡ Status.Answered) ⊎ (result ≡ Status.WriteFailed) }
-    ensures text { result ≡ Status.Answered → Appends (O.written out.old) (O.written out.new) (text_of answer.now) }
-    ensures quiet { result ≡ Status.Answered → err.new ≡ err.old }
-    ensures front { result ≡ Status.WriteFailed → AppendsFront (O.written out.old) (O.written out.new) (text_of answer.now) }
-    ensures cause { result ≡ Status.WriteFailed → Rose (O.faults out.old) (O.faults out.new) }
-    ensures line { result ≡ Status.WriteFailed → IsReported write_failed (E.written err.old) (E.written err.new) (E.faults err.old) (E.faults err.new) }
-{
-    match put_answer(out, answer) {
-        Ok(()) => Status::Answered,
-        Err(_) => {
-            report_unwritten(err);
-            Status::WriteFailed
-        }
-    }
-}
 
 /// Runs a script over data: prints the answer to `out`, or one line to `err`. It answers the status.
 pub fn run<F: Shelf, O: Sink, E: Sink>(
@@ -56,6 +27,10 @@ pub fn run<F: Shelf, O: Sink, E: Sink>(
     ensures answered { let files : Files = record { script = script.now; input = input.now } in
         result ≡ 0 → WhereTold (F.content shelf.old) files (IsPrinted (O.written out.old) (O.written out.new)) }
     ensures quiet { result ≡ 0 → err.new ≡ err.old }
+
+    ensures script_refused { result ≡ 3 → IfSome (F.content shelf.old script.now) (IsScriptRefused script.now (E.written err.old) (E.written err.new) (E.faults err.old) (E.faults err.new)) }
+
+    ensures refused_script { IfSome (F.content shelf.old script.now) (λ bytes. IsErr (language bytes) → IsRefusedStatus result) }
 
     ensures data_refused { let files : Files = record { script = script.now; input = input.now } in
         result ≡ 4 → WhereTold (F.content shelf.old) files (IsDataRefused input.now (E.written err.old) (E.written err.new) (E.faults err.old) (E.faults err.new)) }
@@ -78,7 +53,7 @@ pub fn run<F: Shelf, O: Sink, E: Sink>(
     ensures complete { let files : Files = record { script = script.now; input = input.now } in
         IsFaultless (F.content shelf.old) files (F.faults shelf.old) (F.faults shelf.new) (O.faults out.old) (O.faults out.new) → (result ≡ 0) ⊎ (result ≡ 7) }
 
-    ensures unwritten { (result ≡ 4) ⊎ ((result ≡ 5) ⊎ ((result ≡ 7) ⊎ (result ≡ 8))) → out.new ≡ out.old }
+    ensures unwritten { (result ≡ 3) ⊎ ((result ≡ 4) ⊎ ((result ≡ 5) ⊎ ((result ≡ 7) ⊎ (result ≡ 8)))) → out.new ≡ out.old }
     ensures content { F.content shelf.new ≡ F.content shelf.old }
     ensures never_falls { NoneFell (F.faults shelf.old) (F.faults shelf.new) }
 {

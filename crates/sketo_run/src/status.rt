@@ -9,6 +9,8 @@ pub enum Status {
     Answered,
     /// The words are refused.
     WordsRefused,
+    /// The script is refused.
+    ScriptRefused,
     /// The data is refused.
     DataRefused,
     /// A read failed.
@@ -29,6 +31,7 @@ impl Status {
         match self {
             Status::Answered => 0,
             Status::WordsRefused => 2,
+            Status::ScriptRefused => 3,
             Status::DataRefused => 4,
             Status::ReadFailed => 5,
             Status::WriteFailed => 6,

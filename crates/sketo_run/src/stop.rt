@@ -14,6 +14,8 @@ pub enum Stop {
     ScriptUnread,
     /// The data couldn't be read.
     DataUnread,
+    /// The script is at fault.
+    BadScript(ScriptFault),
     /// The data is at fault.
     BadData(DataFault),
     /// The data doesn't fit the script's input of this name.
@@ -33,6 +35,7 @@ impl Stop {
     {
         match self {
             Stop::ScriptUnread | Stop::DataUnread => Status::ReadFailed,
+            Stop::BadScript(_) => Status::ScriptRefused,
             Stop::BadData(_) | Stop::Unfit(_, _) => Status::DataRefused,
             Stop::NoMemory => Status::NoMemory,
             Stop::NotBuilt => Status::NotBuilt,
@@ -59,8 +62,8 @@ impl From<ScriptFault> for Stop {
 
     fn from(fault: ScriptFault) -> Stop {
         match fault {
-            ScriptFault::NotBuilt => Stop::NotBuilt,
             ScriptFault::Memory => Stop::NoMemory,
+            fault => Stop::BadScript(fault),
         }
     }
 }

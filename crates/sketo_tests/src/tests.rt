@@ -195,17 +195,129 @@ fn a_list_is_reduced_by_its_operator(rt: HostRuntime) -> Result<(), Fail> {
 fn other_scripts_are_not_built(rt: HostRuntime) -> Result<(), Fail> {
     let alloc = rt.alloc();
     let prints_x = "input x list\nlet r = reduce add x\nprint x\n";
-    let affine = "input x list\nlet r = reduce affine x\nprint r\n";
+    let two_prints = "input x list\nlet r = reduce add x\nprint r\nprint x\n";
     for (script, data) in [
         (prints_x, Some(FIVE)),
         (prints_x, Some("x list 1 y")),
         (prints_x, None),
-        (affine, Some(FIVE)),
+        (two_prints, Some(FIVE)),
         ("", Some(FIVE)),
     ] {
         let end = run_sure(alloc, RUN, Some(script), data)?;
         assert_end(&rt, &end, 8, "", "stage: not built\n", script);
     }
+    Ok(())
+}
+
+// A script of these lines, with " / " between them.
+fn script_of(alloc: Global, lines: &str) -> Result<String, AllocError> {
+    let mut script = String::new(alloc);
+    for line in lines.split(" / ") {
+        script.push_str(line)?;
+        script.push('\n')?;
+    }
+    Ok(script)
+}
+
+// Lines of this form with 65 names.
+fn repeated(alloc: Global, before: &str, after: &str) -> Result<String, AllocError> {
+    let mut lines = String::new(alloc);
+    for i in 0..65 {
+        let line = format!(in alloc; "{before} x{i}{after}\n")?;
+        lines.push_str(line.as_str())?;
+    }
+    Ok(lines)
+}
+
+// Scripts, and where they are at fault. Other lines are comments.
+const REFUSED_SCRIPTS: &str = "\
+; each of the thirteen kinds of fault
+input x list / let r = reduce add x x x / print r => line 2, column 24: bad line
+input x list / let r = map (+ (+ (+ (+ (+ (+ (+ (+ (+ (+ (+ (+ (+ (+ (+ (+ (+ (+ (+ (+ (+ (+ (+ (+ (+ (+ (+ (+ (+ (+ 1 => line 2, column 100: too deep
+input x list / let r = reduce add y / print r => line 2, column 20: unknown name
+input x list / let x = reduce add x => line 2, column 5: name used twice
+input x tree / let r = scan add x => line 2, column 18: wrong kind
+input x list / let r = reduce sum x => line 2, column 16: unknown operator
+input a matrix / let r = reduce add min a / print r => line 2, column 20: not abiding
+input x list / let r = reduce affine x / print r => line 2, column 16: wrong arity
+input x list / let s = scan add x / let u = scan add s / let v = scan add u / print u / print v => line 4, column 14: too wide
+input x list / let r = reduce first x => line 2, column 16: no unit
+input x list / input y list / let z = zip x y / print z => line 3, column 15: shape differs
+input x list / let y = zip x x / let z = zip y x / let w = zip z y => line 4, column 15: tuple too long
+; the first line at fault, comments and empty lines counted
+; input / input x list /   / let r = reduce add z / print q => line 4, column 20: unknown name";
+
+#[test]
+fn a_script_is_refused_at_its_first_fault(rt: HostRuntime) -> Result<(), Fail> {
+    let alloc = rt.alloc();
+    let mut count = 0u64;
+    for row in REFUSED_SCRIPTS.lines() {
+        let Some((lines, told)) = row.split_once(" => ") else {
+            continue;
+        };
+        count = count.saturating_add(1);
+        let script = script_of(alloc, lines)?;
+        let told = format!(in alloc; "script: s: {told}\n")?;
+        for line in [RUN, "check s"] {
+            let end = run_sure(alloc, line, Some(script.as_str()), None)?;
+            assert_end(&rt, &end, 3, "", told.as_str(), row);
+        }
+    }
+    assert_eq!(rt; count, 13);
+    let prints = format!(in alloc;
+        "{}{}",
+        repeated(alloc, "input", " list")?,
+        repeated(alloc, "print", "")?
+    )?;
+    let end = run_sure(alloc, RUN, Some(prints.as_str()), None)?;
+    assert_end(
+        &rt,
+        &end,
+        3,
+        "",
+        "script: s: line 130, column 1: too many prints\n",
+        "65 prints",
+    );
+    let mut long = String::new(alloc);
+    for _ in 0..65_537 {
+        long.push('\n')?;
+    }
+    let end = run_sure(alloc, RUN, Some(long.as_str()), None)?;
+    assert_end(
+        &rt,
+        &end,
+        3,
+        "",
+        "script: s: too long\n",
+        "65,537 line feeds",
+    );
+    Ok(())
+}
+
+// Scripts, and the types of their names.
+const CHECKED: &str = "\
+input x list / let s = scan add x / let u = scan add s / let v = scanr add x => x list w64 / s list w96 / u list w128 / v list w96
+input a list / input b list like a / let p = zip a b / let f = reduce affine p / print f => a list w64 / b list w64 / p list (w64,w64) / f value (w64,w64)
+input x list / let e = filter (= (and #0 1) 0) x / let s = map (* #0 #0) e / let r = reduce add s => x list w64 / e list w64 / s list w64 / r value w96
+input t tree / let u = uacc sum t / let p = dacc turns 0 u => t tree w64 / u tree w96 / p tree w96
+input r rose / input m matrix / let c = cols max m => r rose w64 / m matrix w64 / c list w64";
+
+#[test]
+fn a_check_tells_the_type_of_each_name(rt: HostRuntime) -> Result<(), Fail> {
+    let alloc = rt.alloc();
+    let mut count = 0u64;
+    for row in CHECKED.lines() {
+        let Some((lines, types)) = row.split_once(" => ") else {
+            continue;
+        };
+        count = count.saturating_add(1);
+        let (script, out) = (script_of(alloc, lines)?, script_of(alloc, types)?);
+        let end = run_sure(alloc, "check s", Some(script.as_str()), None)?;
+        assert_end(&rt, &end, 0, out.as_str(), "", row);
+    }
+    assert_eq!(rt; count, 5);
+    let end = run_sure(alloc, "check s", None, Some(FIVE))?;
+    assert_end(&rt, &end, 5, "", "read: s: failed\n", "an absent script");
     Ok(())
 }
 
@@ -277,7 +389,7 @@ fn settings_change_no_answer_and_other_commands_are_not_built(rt: HostRuntime) -
         let end = run_sure(alloc, line, Some(SUM), Some(FIVE))?;
         assert_end(&rt, &end, 0, "r value 15\n", "", line);
     }
-    for line in ["check s", "plan absent", "bridges d t --m 3", "trial 1"] {
+    for line in ["plan s", "plan absent", "bridges d t --m 3", "trial 1"] {
         let end = run_sure(alloc, line, Some(SUM), Some(FIVE))?;
         assert_end(&rt, &end, 8, "", "stage: not built\n", line);
     }

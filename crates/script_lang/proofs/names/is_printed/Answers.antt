@@ -1,0 +1,6 @@
+use Rattle.std.proofs.Common.{◌∙◌, sym}
+use Rattle.script_lang.proofs.ListLemmas.{any_of_map}
+use Rattle.script_lang.proofs.names.is_printed.Goals as goal
+
+pub returns : goal.returns
+returns c = c.some_prints.ensures ∙ sym (any_of_map _ _ c.args.lines.now)
