@@ -1,10 +1,12 @@
 //! Values as text.
-ghost use Rattle.std.specs.Prelude.{◌≡◌, ◌≤◌, ◌<◌, ◌+◌, ◌++◌, ◌∷◌, [], length, take, drop, map, slice_index_or, pos, true, OnOk, OnErr, codes, flat_map, decimal};
+ghost use Rattle.std.specs.Prelude.{◌≡◌, ◌≤◌, ◌<◌, ◌+◌, ◌++◌, ◌∷◌, [], length, take, drop, map, slice_index_or, pos, true, OnOk, OnErr, codes, flat_map, decimal, IfSome};
 ghost use Rattle.std.specs.Fmt.{signed_decimal};
 ghost use Rattle.data_text.specs.Given.{IsGiven, IsCutOff};
 ghost use Rattle.data_text.specs.Pending.{IsOpen};
 ghost use Rattle.data_text.specs.Printed.{number_after, element_after, element_text, spaced, mark_text, node_words, rose_node_words, value_words, text_of};
 ghost use Rattle.data_text.specs.Named.{AreSections};
+ghost use Rattle.op_laws.specs.Elements.{singles};
+ghost use Rattle.op_laws.specs.declared.width.Width.TheVariants.{W64};
 ghost use Rattle.data_text.specs.ReadBack.{IsReadBack};
 ghost use Rattle.bin_tree.specs.Trees as binary;
 ghost use Rattle.bin_tree.specs.Roses as roses;
@@ -13,7 +15,7 @@ use crate::kept::are_kept;
 use crate::outlet::Outlet;
 use crate::value::{Named, Value};
 use bin_tree::{Rose, Tree};
-use op_laws::{List, Matrix, Tup};
+use op_laws::{ElemType, List, Matrix, Tup, Width};
 use outside::{Failed, Sink};
 
 // A byte, and the number at a place of an element.
@@ -84,8 +86,41 @@ fn write_element_after<O: Sink>(t: Tup, out: &mut Outlet, sink: &mut O) -> Resul
     write_several(t, out, sink)
 }
 
-// The elements, each after a space.
-fn write_elements<O: Sink>(xs: &List, out: &mut Outlet, sink: &mut O) -> Result<(), Failed>
+// Whether elements are one number of 64 bits each.
+#[inline(always)]
+fn is_narrow(ty: ElemType) -> bool
+    ensures { result ≡ true → ty ≡ W64 ∷ [] }
+{
+    ty.len() == 1 && ty.at(0) == Width::W64
+}
+
+// The elements as a slice of their numbers, where each is one number of 64 bits.
+#[inline(always)]
+fn narrow(xs: &List) -> Option<&[i64]>
+    ensures { IfSome result (λ numbers. xs.now.items ≡ singles numbers.now) }
+{
+    xs.admitted();
+    if is_narrow(xs.ty()) {
+        return Some(xs.numbers_64(0));
+    }
+    None
+}
+
+// The numbers, each after a space.
+fn write_numbers<O: Sink>(numbers: &[i64], out: &mut Outlet, sink: &mut O) -> Result<(), Failed>
+    requires { IsOpen out.old }
+    ensures given { OnOk result (IsGiven (flat_map (number_after 32) numbers.now) out.old out.new (O.written sink.old) (O.written sink.new)) }
+    ensures cut_off { OnErr result (IsCutOff (flat_map (number_after 32) numbers.now) out.old out.new (O.written sink.old) (O.written sink.new) (O.faults sink.old) (O.faults sink.new)) }
+    ensures never_falls { O.faults sink.old ≤ O.faults sink.new }
+{
+    for v in numbers {
+        out.prefixed_number(sink, b" ", *v)?;
+    }
+    Ok(())
+}
+
+// The elements, each put together from its columns and after a space.
+fn write_each_element<O: Sink>(xs: &List, out: &mut Outlet, sink: &mut O) -> Result<(), Failed>
     requires { IsOpen out.old }
     ensures given { OnOk result (IsGiven (flat_map element_after xs.now.items) out.old out.new (O.written sink.old) (O.written sink.new)) }
     ensures cut_off { OnErr result (IsCutOff (flat_map element_after xs.now.items) out.old out.new (O.written sink.old) (O.written sink.new) (O.faults sink.old) (O.faults sink.new)) }
@@ -95,6 +130,19 @@ fn write_elements<O: Sink>(xs: &List, out: &mut Outlet, sink: &mut O) -> Result<
         write_element_after(xs.at(i), out, sink)?;
     }
     Ok(())
+}
+
+// The elements, each after a space.
+fn write_elements<O: Sink>(xs: &List, out: &mut Outlet, sink: &mut O) -> Result<(), Failed>
+    requires { IsOpen out.old }
+    ensures given { OnOk result (IsGiven (flat_map element_after xs.now.items) out.old out.new (O.written sink.old) (O.written sink.new)) }
+    ensures cut_off { OnErr result (IsCutOff (flat_map element_after xs.now.items) out.old out.new (O.written sink.old) (O.written sink.new) (O.faults sink.old) (O.faults sink.new)) }
+    ensures never_falls { O.faults sink.old ≤ O.faults sink.new }
+{
+    match narrow(xs) {
+        Some(numbers) => write_numbers(numbers, out, sink),
+        None => write_each_element(xs, out, sink),
+    }
 }
 
 // A count.
@@ -136,8 +184,7 @@ fn write_count_after<O: Sink>(count: u32, out: &mut Outlet, sink: &mut O) -> Res
     ensures cut_off { OnErr result (IsCutOff (32 ∷ decimal count) out.old out.new (O.written sink.old) (O.written sink.new) (O.faults sink.old) (O.faults sink.new)) }
     ensures never_falls { O.faults sink.old ≤ O.faults sink.new }
 {
-    out.text(sink, b" ")?;
-    write_count(count, out, sink)
+    out.prefixed_number(sink, b" ", i64::from(count))
 }
 
 // The number of columns and the cells of a matrix.
@@ -193,7 +240,7 @@ fn write_node<O: Sink>(t: &Tree, i: u32, out: &mut Outlet, sink: &mut O) -> Resu
 }
 
 // The words of the nodes, in preorder, each after a space.
-fn write_nodes<O: Sink>(t: &Tree, out: &mut Outlet, sink: &mut O) -> Result<(), Failed>
+fn write_each_node<O: Sink>(t: &Tree, out: &mut Outlet, sink: &mut O) -> Result<(), Failed>
     requires { IsOpen out.old }
     ensures given { OnOk result (IsGiven (flat_map (λ s. spaced (node_words s)) (binary.column (λ s. s) t.now.tree)) out.old out.new (O.written sink.old) (O.written sink.new)) }
     ensures cut_off { OnErr result (IsCutOff (flat_map (λ s. spaced (node_words s)) (binary.column (λ s. s) t.now.tree)) out.old out.new (O.written sink.old) (O.written sink.new) (O.faults sink.old) (O.faults sink.new)) }
@@ -203,6 +250,47 @@ fn write_nodes<O: Sink>(t: &Tree, out: &mut Outlet, sink: &mut O) -> Result<(), 
         write_node(t, i, out, sink)?;
     }
     Ok(())
+}
+
+// The word for a leaf or an inner node, between spaces.
+#[inline(always)]
+fn mark_within(leaf: bool) -> &'static [u8]
+    ensures { result.now ≡ 32 ∷ mark_text leaf ++ 32 ∷ [] }
+{
+    if leaf { b" L " } else { b" N " }
+}
+
+// The words of the nodes of a tree of numbers, in preorder, each after a space.
+fn write_number_nodes<O: Sink>(
+    t: &Tree,
+    numbers: &[i64],
+    out: &mut Outlet,
+    sink: &mut O,
+) -> Result<(), Failed>
+    requires ready { IsOpen out.old }
+    requires values { binary.values_of t.now.tree ≡ singles numbers.now }
+    ensures given { OnOk result (IsGiven (flat_map (λ s. spaced (node_words s)) (binary.column (λ s. s) t.now.tree)) out.old out.new (O.written sink.old) (O.written sink.new)) }
+    ensures cut_off { OnErr result (IsCutOff (flat_map (λ s. spaced (node_words s)) (binary.column (λ s. s) t.now.tree)) out.old out.new (O.written sink.old) (O.written sink.new) (O.faults sink.old) (O.faults sink.new)) }
+    ensures never_falls { O.faults sink.old ≤ O.faults sink.new }
+{
+    for i in 0..t.len() {
+        let mark = mark_within(t.is_leaf(i));
+        out.prefixed_number(sink, mark, numbers[i as usize])?;
+    }
+    Ok(())
+}
+
+// The words of the nodes, in preorder, each after a space.
+fn write_nodes<O: Sink>(t: &Tree, out: &mut Outlet, sink: &mut O) -> Result<(), Failed>
+    requires { IsOpen out.old }
+    ensures given { OnOk result (IsGiven (flat_map (λ s. spaced (node_words s)) (binary.column (λ s. s) t.now.tree)) out.old out.new (O.written sink.old) (O.written sink.new)) }
+    ensures cut_off { OnErr result (IsCutOff (flat_map (λ s. spaced (node_words s)) (binary.column (λ s. s) t.now.tree)) out.old out.new (O.written sink.old) (O.written sink.new) (O.faults sink.old) (O.faults sink.new)) }
+    ensures never_falls { O.faults sink.old ≤ O.faults sink.new }
+{
+    match narrow(t.values()) {
+        Some(numbers) => write_number_nodes(t, numbers, out, sink),
+        None => write_each_node(t, out, sink),
+    }
 }
 
 // The number of nodes, and the nodes.
@@ -240,7 +328,7 @@ fn write_rose_node<O: Sink>(r: &Rose, i: u32, out: &mut Outlet, sink: &mut O) ->
 }
 
 // The words of the nodes of a rose tree, in preorder, each after a space.
-fn write_rose_nodes<O: Sink>(r: &Rose, out: &mut Outlet, sink: &mut O) -> Result<(), Failed>
+fn write_each_rose_node<O: Sink>(r: &Rose, out: &mut Outlet, sink: &mut O) -> Result<(), Failed>
     requires { IsOpen out.old }
     ensures given { OnOk result (IsGiven (flat_map (λ s. spaced (rose_node_words s)) (roses.column (λ s. s) r.now.rose)) out.old out.new (O.written sink.old) (O.written sink.new)) }
     ensures cut_off { OnErr result (IsCutOff (flat_map (λ s. spaced (rose_node_words s)) (roses.column (λ s. s) r.now.rose)) out.old out.new (O.written sink.old) (O.written sink.new) (O.faults sink.old) (O.faults sink.new)) }
@@ -250,6 +338,54 @@ fn write_rose_nodes<O: Sink>(r: &Rose, out: &mut Outlet, sink: &mut O) -> Result
         write_rose_node(r, i, out, sink)?;
     }
     Ok(())
+}
+
+// A number and a count, each after a space.
+fn write_number_and_count<O: Sink>(
+    v: i64,
+    count: u32,
+    out: &mut Outlet,
+    sink: &mut O,
+) -> Result<(), Failed>
+    requires { IsOpen out.old }
+    ensures given { OnOk result (IsGiven (number_after 32 v ++ 32 ∷ decimal count) out.old out.new (O.written sink.old) (O.written sink.new)) }
+    ensures cut_off { OnErr result (IsCutOff (number_after 32 v ++ 32 ∷ decimal count) out.old out.new (O.written sink.old) (O.written sink.new) (O.faults sink.old) (O.faults sink.new)) }
+    ensures never_falls { O.faults sink.old ≤ O.faults sink.new }
+{
+    out.prefixed_number(sink, b" ", v)?;
+    write_count_after(count, out, sink)
+}
+
+// The words of the nodes of a rose tree of numbers, in preorder, each after a space.
+fn write_number_rose_nodes<O: Sink>(
+    r: &Rose,
+    numbers: &[i64],
+    out: &mut Outlet,
+    sink: &mut O,
+) -> Result<(), Failed>
+    requires ready { IsOpen out.old }
+    requires values { roses.values_of r.now.rose ≡ singles numbers.now }
+    ensures given { OnOk result (IsGiven (flat_map (λ s. spaced (rose_node_words s)) (roses.column (λ s. s) r.now.rose)) out.old out.new (O.written sink.old) (O.written sink.new)) }
+    ensures cut_off { OnErr result (IsCutOff (flat_map (λ s. spaced (rose_node_words s)) (roses.column (λ s. s) r.now.rose)) out.old out.new (O.written sink.old) (O.written sink.new) (O.faults sink.old) (O.faults sink.new)) }
+    ensures never_falls { O.faults sink.old ≤ O.faults sink.new }
+{
+    for i in 0..r.len() {
+        write_number_and_count(numbers[i as usize], r.children(i), out, sink)?;
+    }
+    Ok(())
+}
+
+// The words of the nodes of a rose tree, in preorder, each after a space.
+fn write_rose_nodes<O: Sink>(r: &Rose, out: &mut Outlet, sink: &mut O) -> Result<(), Failed>
+    requires { IsOpen out.old }
+    ensures given { OnOk result (IsGiven (flat_map (λ s. spaced (rose_node_words s)) (roses.column (λ s. s) r.now.rose)) out.old out.new (O.written sink.old) (O.written sink.new)) }
+    ensures cut_off { OnErr result (IsCutOff (flat_map (λ s. spaced (rose_node_words s)) (roses.column (λ s. s) r.now.rose)) out.old out.new (O.written sink.old) (O.written sink.new) (O.faults sink.old) (O.faults sink.new)) }
+    ensures never_falls { O.faults sink.old ≤ O.faults sink.new }
+{
+    match narrow(r.values()) {
+        Some(numbers) => write_number_rose_nodes(r, numbers, out, sink),
+        None => write_each_rose_node(r, out, sink),
+    }
 }
 
 // The number of nodes of a rose tree, and the nodes.
