@@ -1,0 +1,4 @@
+pub mod Blocks
+pub mod Skeletons
+pub mod Given
+pub mod Props
