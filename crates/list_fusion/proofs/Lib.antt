@@ -2,3 +2,4 @@ pub mod HeadLemmas
 pub mod StageLemmas
 pub mod BlockLemmas
 pub mod ScanLemmas
+pub mod NumberLemmas

@@ -1,9 +1,9 @@
 -- Folds and scans of a block with one place more.
-use Rattle.std.proofs.Common.{◌≡◌, ℕ, suc, ◌+◌, ◌≤◌, ℤ, List, [], ◌∷◌, ◌++◌, Bool, Option, Some, None, map, reverse, length, refl, ap, sym, ◌∙◌, arith, subst, IfSome, is_some, true}
+use Rattle.std.proofs.Common.{◌≡◌, ℕ, suc, ◌+◌, ◌≤◌, ℤ, List, [], ◌∷◌, ◌++◌, Bool, Option, Some, None, map, reverse, length, refl, ap, sym, ◌∙◌, arith, subst, IfSome, is_some, true, false}
 use Rattle.std.specs.List.{All, fold}
 use Rattle.std.specs.Option.{option_to_list}
-use Rattle.std.proofs.lemmas.List.{length-map, map-append, append-nil, reverse-append}
-use Rattle.std.proofs.lemmas.List.Elements.{All-cons}
+use Rattle.std.proofs.lemmas.List.{length-map, map-append, append-nil, append_assoc, length-append, reverse-append}
+use Rattle.std.proofs.lemmas.List.Elements.{All-cons, All-nil, All-append, All-head, All-tail}
 use Rattle.op_laws.specs.declared.TheConstants.{MAX_ELEMENTS}
 use Rattle.op_laws.specs.declared.width.Width.{Width}
 use Rattle.op_laws.specs.Admits.{Admits}
@@ -11,7 +11,7 @@ use Rattle.op_laws.specs.Laws.{LiftLaws, CombineLaws}
 use Rattle.op_laws.specs.Folds.{step, fold_of, beside, with_next, with_front}
 use Rattle.op_laws.proofs.FoldLemmas.{fold_of-push, fold_of-front, fits-fold_of}
 use Rattle.list_fusion.specs.Scans.{prefixes, suffixes, result_of, scan_after, scanr_before}
-use Rattle.list_fusion.specs.Held.{held_after, held_in_front, told_of}
+use Rattle.list_fusion.specs.Held.{held_after, held_in_front, told_of, held_through, scanned}
 
 module _ {X : Type 0} where
   -- the prefixes of a list with one element more
@@ -131,3 +131,40 @@ module _ {C : Type 0} {takes : List Width → Type 0} {gives : List Width → Li
       let told = scanr-front behind nb o es few fit all one in
       let now : next ≡ beside combined (fold_of lifted combined (option_to_list o ++ es)) behind = cc in
       (now, cc)
+
+  -- what is held goes on from one part of a list to the next
+  pub held-on : (before : Option C) (nb : ℕ) (es ds : List (List ℤ)) → nb + (length es + length ds) ≤ MAX_ELEMENTS → IfSome before (λ c. fits c nb) → All (Admits ty) es → All (Admits ty) ds
+      → held_through lifted combined false (beside combined before (fold_of lifted combined es)) ds ≡ beside combined before (fold_of lifted combined (es ++ ds))
+  held-on before nb es [] few fit all more = ap (λ xs. beside combined before (fold_of lifted combined xs)) (sym (append-nil es))
+  held-on before nb es (d ∷ ds) few fit all more =
+      let one = All-head (Admits ty) d ds more in
+      let longer = All-append (Admits ty) es (d ∷ []) all (All-cons (Admits ty) d [] one (All-nil (Admits ty))) in
+      let count = length-append es (d ∷ []) in
+      ap (λ h. held_through lifted combined false h ds) (sym (beside-push before nb es d (omega arith) fit all one))
+      ∙ held-on before nb (es ++ d ∷ []) ds (omega (arith, count)) fit longer (All-tail (Admits ty) d ds more)
+      ∙ ap (λ xs. beside combined before (fold_of lifted combined xs)) (append_assoc es (d ∷ []) ds)
+
+  -- and so does a scan
+  pub scan-on : (before : Option C) (nb : ℕ) (es ds : List (List ℤ)) → nb + (length es + length ds) ≤ MAX_ELEMENTS → IfSome before (λ c. fits c nb) → All (Admits ty) es → All (Admits ty) ds
+      → scan_after finished lifted combined before es ++ scanned lifted combined finished false (beside combined before (fold_of lifted combined es)) ds ≡ scan_after finished lifted combined before (es ++ ds)
+  scan-on before nb es [] few fit all more = append-nil (scan_after finished lifted combined before es) ∙ ap (scan_after finished lifted combined before) (sym (append-nil es))
+  scan-on before nb es (d ∷ ds) few fit all more =
+      let one = All-head (Admits ty) d ds more in
+      let longer = All-append (Admits ty) es (d ∷ []) all (All-cons (Admits ty) d [] one (All-nil (Admits ty))) in
+      let count = length-append es (d ∷ []) in
+      let held = beside combined before (fold_of lifted combined es) in
+      let next = with_next combined held (lifted d) in
+      let pushed : beside combined before (fold_of lifted combined (es ++ d ∷ [])) ≡ Some next = beside-push before nb es d (omega arith) fit all one in
+      let rest = scanned lifted combined finished false (Some next) ds in
+      let told : scan_after finished lifted combined before es ++ finished next ∷ [] ≡ scan_after finished lifted combined before (es ++ d ∷ []) =
+      ap (λ h. scan_after finished lifted combined before es ++ option_to_list (told_of finished true h)) (sym pushed) ∙ scan-more before nb es (Some d) (omega arith) fit all one in
+      sym (append_assoc (scan_after finished lifted combined before es) (finished next ∷ []) rest)
+      ∙ ap (λ xs. xs ++ rest) told
+      ∙ ap (λ h. scan_after finished lifted combined before (es ++ d ∷ []) ++ scanned lifted combined finished false h ds) (sym pushed)
+      ∙ scan-on before nb (es ++ d ∷ []) ds (omega (arith, count)) fit longer (All-tail (Admits ty) d ds more)
+      ∙ ap (scan_after finished lifted combined before) (append_assoc es (d ∷ []) ds)
+
+  pub scan-first : (before : Option C) (nb : ℕ) (es : List (List ℤ)) → nb + length es ≤ MAX_ELEMENTS → IfSome before (λ c. fits c nb) → All (Admits ty) es
+      → scanned lifted combined finished false before es ≡ scan_after finished lifted combined before es
+  scan-first before nb es few fit all =
+      ap (λ h. scanned lifted combined finished false h es) (sym (beside-none combined before)) ∙ scan-on before nb [] es (omega arith) fit (All-nil (Admits ty)) all

@@ -1,6 +1,6 @@
 //! Folds of blocks, and blocks as lists.
 
-ghost use Rattle.std.specs.Prelude.{◌≡◌, ◌+◌, ◌-◌, ◌<◌, ◌≤◌, ◌++◌, length, IfOk, IfSome, OnOk};
+ghost use Rattle.std.specs.Prelude.{◌≡◌, ◌+◌, ◌-◌, ◌<◌, ◌≤◌, ◌++◌, length, reverse, slice_range, IfOk, IfSome, OnOk};
 ghost use Rattle.std.specs.List.{All};
 ghost use Rattle.std.specs.Option.{option_to_list};
 ghost use Rattle.op_laws.specs.declared.TheConstants.{MAX_ELEMENTS as MOST};
@@ -9,6 +9,7 @@ ghost use Rattle.op_laws.specs.Folds.{fold_of};
 ghost use Rattle.list_fusion.specs.Pipes.{type_of, block_of};
 
 use crate::combining::advanced;
+use crate::numbers::fold_numbers;
 use crate::pipe::Pipe;
 use op_laws::{List, Semi, Tup};
 use std::alloc::{AllocError, Global};
@@ -26,6 +27,21 @@ pub fn fold_block<M: Semi>(pipe: &Pipe, op: &M, from: u32, to: u32) -> Option<M:
     // By this it is known of a whole list whose blocks were folded that the operator takes it.
     ensures admitted { All (Admits (type_of pipe.now)) (block_of pipe.now from to) }
 {
+    if let Some(numbers) = pipe.numbers() {
+        return fold_numbers(op, None, 0, &numbers[from as usize..to as usize]);
+    }
+    fold_elements(pipe, op, from, to)
+}
+
+// Element by element.
+fn fold_elements<M: Semi>(pipe: &Pipe, op: &M, from: u32, to: u32) -> Option<M::C>
+    requires takes { M.takes op.now (type_of pipe.now) }
+    requires ordered { from ≤ to }
+    requires within { to ≤ length pipe.now.head.items }
+    ensures value { result ≡ fold_of (M.lifted op.now) (M.combined op.now) (block_of pipe.now from to) }
+    ensures fits { IfSome result (λ c. M.fits op.now c (to - from)) }
+    ensures admitted { All (Admits (type_of pipe.now)) (block_of pipe.now from to) }
+{
     let mut held = None;
     for i in from..to {
         held = advanced(op, held, i - from, pipe.element(i));
@@ -35,6 +51,47 @@ pub fn fold_block<M: Semi>(pipe: &Pipe, op: &M, from: u32, to: u32) -> Option<M:
 
 /// A block's elements as a list.
 pub fn build_block(alloc: Global, pipe: &Pipe, from: u32, to: u32) -> Result<List, AllocError>
+    requires ordered { from ≤ to }
+    requires within { to ≤ length pipe.now.head.items }
+    ensures ty { IfOk result (λ x. x.ty ≡ type_of pipe.now) }
+    ensures items { IfOk result (λ x. x.items ≡ block_of pipe.now from to) }
+{
+    if let Some(list) = pipe.list() {
+        if pipe.is_reversed() {
+            return part_from_behind(alloc, list, from, to);
+        }
+        return part_of(alloc, list, from, to);
+    }
+    build_elements(alloc, pipe, from, to)
+}
+
+// The part of a list, column by column.
+fn part_of(alloc: Global, list: &List, from: u32, to: u32) -> Result<List, AllocError>
+    requires ordered { from ≤ to }
+    requires within { to ≤ length list.now.items }
+    ensures ty { IfOk result (λ x. x.ty ≡ list.now.ty) }
+    ensures items { IfOk result (λ x. x.items ≡ slice_range list.now.items from to) }
+{
+    let mut part = List::new(alloc, list.ty());
+    part.append_range(list, from, to)?;
+    Ok(part)
+}
+
+// The part of a list that is turned round, column by column.
+fn part_from_behind(alloc: Global, list: &List, from: u32, to: u32) -> Result<List, AllocError>
+    requires ordered { from ≤ to }
+    requires within { to ≤ length list.now.items }
+    ensures ty { IfOk result (λ x. x.ty ≡ list.now.ty) }
+    ensures items { IfOk result (λ x. x.items ≡ slice_range (reverse list.now.items) from to) }
+{
+    let mut part = List::new(alloc, list.ty());
+    part.append_range(list, list.len() - to, list.len() - from)?;
+    part.reverse();
+    Ok(part)
+}
+
+// Element by element.
+fn build_elements(alloc: Global, pipe: &Pipe, from: u32, to: u32) -> Result<List, AllocError>
     requires ordered { from ≤ to }
     requires within { to ≤ length pipe.now.head.items }
     ensures ty { IfOk result (λ x. x.ty ≡ type_of pipe.now) }

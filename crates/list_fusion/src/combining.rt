@@ -4,7 +4,7 @@ ghost use Rattle.std.specs.Prelude.{◌≡◌, ◌+◌, ◌<◌, ◌≤◌, IfSo
 ghost use Rattle.op_laws.specs.declared.TheConstants.{MAX_ELEMENTS as MOST};
 ghost use Rattle.op_laws.specs.Folds.{with_next, with_front};
 ghost use Rattle.op_laws.specs.Laws.{IsElementOf};
-ghost use Rattle.list_fusion.specs.Held.{held_after, held_in_front};
+ghost use Rattle.list_fusion.specs.Held.{held_after, held_in_front, next_held};
 
 use op_laws::{Semi, Tup};
 
@@ -35,6 +35,22 @@ pub fn joined_in_front<M: Semi>(op: &M, e: M::C, held: Option<M::C>, n: u32) -> 
     match held {
         None => e,
         Some(c) => op.combine(e, 1, c, n),
+    }
+}
+
+// One of the two: `back` says that the element stands in front.
+#[inline(always)]
+pub fn joined_beside<M: Semi>(op: &M, back: bool, held: Option<M::C>, n: u32, e: M::C) -> M::C
+    requires few { n + 1 ≤ MOST }
+    requires held { IfSome held (λ c. M.fits op.now c n) }
+    requires one { M.fits op.now e 1 }
+    ensures value { result ≡ next_held (M.combined op.now) back held e }
+    ensures fits { M.fits op.now result (n + 1) }
+{
+    if back {
+        joined_in_front(op, e, held, n)
+    } else {
+        joined_after(op, held, n, e)
     }
 }
 

@@ -1,7 +1,10 @@
 //! Where the elements of a pipe come from.
 
-ghost use Rattle.std.specs.Prelude.{◌≡◌, ◌+◌, ◌<◌, ◌≤◌, [], ◌++◌, length, take, slice_index_or};
+ghost use Rattle.std.specs.Prelude.{◌≡◌, ◌+◌, ◌<◌, ◌≤◌, true, [], ◌∷◌, ◌++◌, length, take, slice_index_or, IfSome, OnSome};
+ghost use Rattle.std.specs.List.{All};
+ghost use Rattle.op_laws.specs.declared.width.Width.TheVariants.{W64};
 ghost use Rattle.op_laws.specs.Admits.{Admits};
+ghost use Rattle.op_laws.specs.Elements.{singles};
 ghost use Rattle.list_fusion.specs.Heads.{head_of, CanBeHead};
 
 use op_laws::{ElemType, List, Tup, Width};
@@ -56,6 +59,17 @@ impl<'a> Head<'a> {
             Head::Iota(_) => Tup::one(i128::from(i)),
         }
     }
+
+    // Its list, where there is one alone.
+    #[inline(always)]
+    pub(crate) fn list(&self) -> Option<&'a List>
+        ensures { IfSome result (λ x. head_of self.now ≡ x.now) }
+    {
+        match self {
+            Head::One(x) => Some(x),
+            _ => None,
+        }
+    }
 }
 
 // The widths of both types.
@@ -68,4 +82,27 @@ fn joined_type(a: ElemType, b: ElemType) -> ElemType
         ty = ty.push(b.at(i));
     }
     ty
+}
+
+// The elements as numbers that lie side by side, where they are one number of w64 each.
+#[inline(always)]
+pub(crate) fn numbers_of(x: &List) -> Option<&[i64]>
+    ensures ty { OnSome result (x.now.ty ≡ W64 ∷ []) }
+    ensures items { IfSome result (λ xs. x.now.items ≡ singles xs.now) }
+    ensures admitted { IfSome result (λ xs. All (Admits (W64 ∷ [])) (singles xs.now)) }
+{
+    x.admitted();
+    if is_single(x.ty()) {
+        Some(x.numbers_64(0))
+    } else {
+        None
+    }
+}
+
+// Whether elements are one number of w64 each.
+#[inline(always)]
+pub(crate) fn is_single(ty: ElemType) -> bool
+    ensures { result ≡ true → ty ≡ W64 ∷ [] }
+{
+    ty.len() == 1 && ty.at(0) == Width::W64
 }

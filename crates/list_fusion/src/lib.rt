@@ -5,6 +5,7 @@ mod block;
 mod combining;
 mod cuts;
 mod head;
+mod numbers;
 mod pipe;
 mod scan;
 mod stage;

@@ -8,11 +8,12 @@ ghost use Rattle.list_fusion.specs.declared.stage.Stage.TheVariants.{Map, Keep};
 ghost use Rattle.list_fusion.specs.Heads.{head_of, CanBeHead};
 ghost use Rattle.list_fusion.specs.Stages.{is_kept};
 ghost use Rattle.list_fusion.specs.Pipes.{elements, type_of, places, with_stage};
+ghost use Rattle.list_fusion.specs.Kept.{IsPlain, AreNumbers};
 ghost use Rattle.list_fusion.specs.Through.{through};
 
-use crate::head::Head;
+use crate::head::{Head, numbers_of};
 use crate::stage::Stage;
-use op_laws::{ElemType, Tup};
+use op_laws::{ElemType, List, Tup};
 use scalar_expr::Typed;
 use std::alloc::{AllocError, Global};
 use std::marker::Model;
@@ -110,6 +111,37 @@ impl<'a> Pipe<'a> {
         ensures { result ≡ length self.now.head.items }
     {
         self.len
+    }
+
+    // Its list, turned round or not, where nothing else is done to the elements.
+    #[inline(always)]
+    pub(crate) fn list(&self) -> Option<&'a List>
+        ensures { IfSome result (λ x. IsPlain self.now x.now) }
+    {
+        if self.stages.is_empty() {
+            self.head.list()
+        } else {
+            None
+        }
+    }
+
+    // Its elements as numbers that lie side by side, where nothing is done to them.
+    #[inline(always)]
+    pub(crate) fn numbers(&self) -> Option<&'a [i64]>
+        ensures { IfSome result (λ xs. AreNumbers self.now xs.now) }
+    {
+        if self.reversed {
+            return None;
+        }
+        numbers_of(self.list()?)
+    }
+
+    // Whether it is turned round.
+    #[inline(always)]
+    pub(crate) fn is_reversed(&self) -> bool
+        ensures { result ≡ self.now.reversed }
+    {
+        self.reversed
     }
 
     // The head's element at place `i`, counted in the pipe's direction.

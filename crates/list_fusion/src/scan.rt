@@ -1,18 +1,21 @@
 //! Scans of blocks.
 
-ghost use Rattle.std.specs.Prelude.{◌≡◌, ◌+◌, ◌-◌, ◌<◌, ◌≤◌, ◌++◌, length, IfOk, IfSome};
+ghost use Rattle.std.specs.Prelude.{◌≡◌, ◌+◌, ◌-◌, ◌<◌, ◌≤◌, [], ◌∷◌, false, length, IfOk, IfSome};
 ghost use Rattle.std.specs.Prelude.{List as Seq};
 ghost use Rattle.op_laws.specs.declared.TheConstants.{MAX_ELEMENTS as MOST};
 ghost use Rattle.op_laws.specs.declared.width.Width.{Width as Kind};
+ghost use Rattle.op_laws.specs.declared.width.Width.TheVariants.{W64};
 ghost use Rattle.op_laws.specs.Admits.{Admits};
+ghost use Rattle.op_laws.specs.Elements.{singles};
 ghost use Rattle.list_fusion.specs.Pipes.{type_of, block_of};
 ghost use Rattle.list_fusion.specs.Scans.{scan_after, scanr_before, scan_beside};
-ghost use Rattle.list_fusion.specs.Held.{told_of};
+ghost use Rattle.list_fusion.specs.Held.{told_of, scanned};
 
 use crate::block::add;
 use crate::combining::{advanced, preceded};
+use crate::numbers::scan_numbers;
 use crate::pipe::Pipe;
-use op_laws::{List, Semi, Tup};
+use op_laws::{ElemType, List, Semi, Tup};
 use std::alloc::{AllocError, Global};
 
 /// For each element of a block, in order, the finished value of the elements up to it with `before`
@@ -37,10 +40,40 @@ pub fn scan_block<M: Semi>(
     ensures items { IfOk result (λ x. x.items ≡ scan_beside (M.finished op.now) (M.lifted op.now) (M.combined op.now) back before (block_of pipe.now from to)) }
 {
     if back {
-        scan_back(alloc, pipe, op, before, nb, from, to)
-    } else {
-        scan_on(alloc, pipe, op, before, nb, from, to)
+        return scan_back(alloc, pipe, op, before, nb, from, to);
     }
+    if let Some(numbers) = pipe.numbers() {
+        return scan_slice(
+            alloc,
+            op,
+            pipe.ty(),
+            before,
+            nb,
+            &numbers[from as usize..to as usize],
+        );
+    }
+    scan_on(alloc, pipe, op, before, nb, from, to)
+}
+
+// Of numbers that lie side by side.
+fn scan_slice<M: Semi>(
+    alloc: Global,
+    op: &M,
+    ty: ElemType,
+    before: Option<M::C>,
+    nb: u32,
+    numbers: &[i64],
+) -> Result<List, AllocError>
+    requires ty { ty ≡ W64 ∷ [] }
+    requires takes { M.takes op.now ty }
+    requires before { IfSome before (λ c. M.fits op.now c nb) }
+    requires few { nb + length numbers.now ≤ MOST }
+    ensures ty { IfOk result (λ x. x.ty ≡ M.gives op.now ty) }
+    ensures items { IfOk result (λ x. x.items ≡ scanned (M.lifted op.now) (M.combined op.now) (M.finished op.now) false before (singles numbers.now)) }
+{
+    let mut list = List::new(alloc, op.result(ty));
+    scan_numbers(&mut list, op, before, nb, numbers, false)?;
+    Ok(list)
 }
 
 fn scan_on<M: Semi>(

@@ -1,12 +1,15 @@
 //! What no clause says: that calls succeed where there is memory, and that pipes give lists worked
 //! out apart from this crate.
 
-ghost use Rattle.std.specs.Prelude.{◌≡◌, ◌≤◌, IfOk};
+ghost use Rattle.std.specs.Prelude.{◌≡◌, ◌≤◌, [], ◌∷◌, IfOk, refl};
+ghost use Rattle.std.proofs.Math.Path.{subst};
+ghost use Rattle.op_laws.specs.declared.width.Width.TheVariants.{W64};
+ghost use Rattle.op_laws.specs.Admits.{Admits};
 ghost use Rattle.scalar_expr.specs.Expr.{nodes};
 ghost use Rattle.scalar_expr.specs.Views.{expr_of};
 
-use crate::{Head, Pipe, build_block};
-use op_laws::{ElemType, List, Tup, Width};
+use crate::{Head, Pipe, build_block, fold_block, scan_block};
+use op_laws::{ElemType, Lifted, List, Semi, Tup, Width};
 use scalar_expr::{Func, Scalar, typed};
 use std::alloc::{AllocError, Global};
 use std::process::Abort;
@@ -49,6 +52,59 @@ fn side_by_side<'a>(rt: &impl Abort, alloc: Global, x: &'a List, y: &'a List) ->
     Pipe::of(alloc, Head::Two(x, y))
 }
 
+// The last of numbers of w64. What its folds and scans come to can be read off the list.
+#[derive(Clone, Copy, Debug)]
+struct Last;
+
+impl Lifted for Last {
+    type C = Tup;
+
+    ghost takes = { λ _ ty. ty ≡ W64 ∷ [] };
+
+    ghost gives = { λ _ _. W64 ∷ [] };
+
+    ghost lifted = { λ _ e. e };
+
+    ghost finished = { λ _ c. c };
+
+    ghost fits = { λ _ c _. Admits (W64 ∷ []) c };
+
+    fn accepts(&self, ty: ElemType) -> bool {
+        ty == ElemType::one(Width::W64)
+    }
+
+    fn result(&self, _ty: ElemType) -> ElemType {
+        ElemType::one(Width::W64)
+    }
+
+    fn lift(&self, e: Tup) -> Tup {
+        e
+    }
+
+    fn finish(&self, c: Tup, _n: u32) -> Tup {
+        c
+    }
+
+    ghost lift_laws = { λ _. record {
+      grows = λ c m n le f. f;
+      lifted_fits = λ ty e taken admitted. subst (λ t. Admits t e) taken admitted;
+      finished_admitted = λ ty c n taken few f. f;
+    } };
+}
+
+impl Semi for Last {
+    ghost combined = { λ _ a b. b };
+
+    fn combine(&self, _a: Tup, _na: u32, b: Tup, _nb: u32) -> Tup {
+        b
+    }
+
+    ghost combine_laws = { λ _. record {
+      combined_fits = λ a m b n few fa fb. fb;
+      associative = λ a l b m c n few fa fb fc. refl;
+    } };
+}
+
 // The block's elements are of one number each, and these are the numbers.
 fn check_block(
     rt: &impl Abort,
@@ -60,20 +116,28 @@ fn check_block(
 ) -> Result<(), AllocError> {
     assert!(rt; from <= to);
     assert!(rt; to <= pipe.head_len());
-    let block = build_block(alloc, pipe, from, to)?;
-    assert_eq!(rt;
-        block.len() as usize,
-        numbers.len(),
-        "places {from} to {to}"
-    );
-    for i in 0..block.len() {
-        assert_eq!(rt;
-            block.at(i),
-            Tup::one(numbers[i as usize]),
-            "places {from} to {to}"
-        );
+    assert!(rt; Last.accepts(pipe.ty()));
+    check_list(rt, &build_block(alloc, pipe, from, to)?, numbers);
+    let prefixes = scan_block(alloc, pipe, &Last, None, 0, from, to, false)?;
+    check_list(rt, &prefixes, numbers);
+    let suffixes = scan_block(alloc, pipe, &Last, None, 0, from, to, true)?;
+    assert_eq!(rt; suffixes.len() as usize, numbers.len());
+    match (numbers.last(), fold_block(pipe, &Last, from, to)) {
+        (None, folded) => assert_eq!(rt; folded, None),
+        (Some(last), folded) => {
+            assert_eq!(rt; folded, Some(Tup::one(*last)));
+            assert_eq!(rt; suffixes.at(0), Tup::one(*last));
+            assert_eq!(rt; suffixes.at(suffixes.len() - 1), Tup::one(*last));
+        }
     }
     Ok(())
+}
+
+fn check_list(rt: &impl Abort, list: &List, numbers: &[i128]) {
+    assert_eq!(rt; list.len() as usize, numbers.len());
+    for i in 0..list.len() {
+        assert_eq!(rt; list.at(i), Tup::one(numbers[i as usize]), "place {i}");
+    }
 }
 
 #[test]
@@ -114,5 +178,19 @@ fn two_lists_are_joined_and_numbers_are_counted(rt: HostRuntime) -> Result<(), F
     let counted = Pipe::of(alloc, Head::Iota(3));
     check_block(&rt, alloc, &counted, 0, 3, &[0, 1, 2])?;
     check_block(&rt, alloc, &Pipe::of(alloc, Head::Iota(0)), 0, 0, &[])?;
+    Ok(())
+}
+
+#[test]
+fn a_list_alone_is_cut_from_either_end(rt: HostRuntime) -> Result<(), Fail> {
+    let alloc = rt.alloc();
+    let list = list_of(&rt, alloc, &[1, 2, 3, 4, 5])?;
+    let mut pipe = Pipe::of(alloc, Head::One(&list));
+    check_block(&rt, alloc, &pipe, 0, 5, &[1, 2, 3, 4, 5])?;
+    check_block(&rt, alloc, &pipe, 1, 3, &[2, 3])?;
+    check_block(&rt, alloc, &pipe, 5, 5, &[])?;
+    pipe.rev();
+    check_block(&rt, alloc, &pipe, 0, 2, &[5, 4])?;
+    check_block(&rt, alloc, &pipe, 2, 5, &[3, 2, 1])?;
     Ok(())
 }

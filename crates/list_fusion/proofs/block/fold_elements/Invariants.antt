@@ -3,7 +3,7 @@ use Rattle.std.specs.List.{All}
 use Rattle.op_laws.specs.Admits.{Admits}
 use Rattle.op_laws.specs.Folds.{fold_of}
 use Rattle.list_fusion.specs.Pipes.{type_of, block_of}
-use Rattle.list_fusion.proofs.block.fold_block.Given as goal
+use Rattle.list_fusion.proofs.block.fold_elements.Given as goal
 
 abbrev pub invariant-loop-i : goal.invariant-loop-i
 invariant-loop-i g l = record {

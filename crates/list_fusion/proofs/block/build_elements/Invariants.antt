@@ -1,6 +1,6 @@
 use Rattle.std.proofs.Common.{◌≡◌}
 use Rattle.list_fusion.specs.Pipes.{type_of, block_of}
-use Rattle.list_fusion.proofs.block.build_block.Given as goal
+use Rattle.list_fusion.proofs.block.build_elements.Given as goal
 
 abbrev pub invariant-loop-i : goal.invariant-loop-i
 invariant-loop-i l = record {

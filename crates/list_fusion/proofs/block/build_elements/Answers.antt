@@ -3,7 +3,7 @@ use Rattle.std.specs.Option.{option_to_list}
 use Rattle.op_laws.specs.declared.TheConstants.{MAX_ELEMENTS}
 use Rattle.list_fusion.specs.Pipes.{block_of}
 use Rattle.list_fusion.proofs.BlockLemmas.{block-none, block-more, length-block}
-use Rattle.list_fusion.proofs.block.build_block.Goals as goal
+use Rattle.list_fusion.proofs.block.build_elements.Goals as goal
 
 pub loop-i-init : goal.loop-i-init
 loop-i-init c = record { ty = c.new-list.ensures.ty ∙ c.ty.ensures; items = c.new-list.ensures.items ∙ sym (block-none c.args.pipe.now c.args.from) }
