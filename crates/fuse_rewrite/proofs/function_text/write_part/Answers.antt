@@ -1,0 +1,20 @@
+use Rattle.std.proofs.Common.{[], ◌∷◌, ◌++◌}
+use Rattle.std.specs.Prelude.{decimal}
+use Rattle.std.proofs.lemmas.Result.{err_from_is_err_and}
+use Rattle.data_text.proofs.GivenLemmas.{cut_before, cut_after, given_after}
+use Rattle.scalar_expr.specs.Views.{expr_of, scalars_of}
+use Rattle.fuse_rewrite.specs.PlanText.{closing_text, scalar_text, function_text}
+use Rattle.fuse_rewrite.proofs.function_text.write_part.Goals as goal
+
+pub returns-in_err-text-clause-cut_off : goal.returns-in_err-text-clause-cut_off
+returns-in_err-text-clause-cut_off g c =
+    let p = err_from_is_err_and c.from_residual.result c.from_residual.ensures.1 in
+    rw p.1 (cut_before (35 ∷ []) (decimal c.args.i) _ _ _ _ _ _ c.in_err-text.ensures.cut_off)
+
+pub returns-clause-given : goal.returns-clause-given
+returns-clause-given g c =
+    given_after c.write_place.result (35 ∷ []) (decimal c.args.i) _ _ _ _ _ _ c.in_ok-text.ensures.given c.write_place.ensures.given
+
+pub returns-clause-cut_off : goal.returns-clause-cut_off
+returns-clause-cut_off g c =
+    cut_after c.write_place.result (35 ∷ []) (decimal c.args.i) _ _ _ _ _ _ _ _ _ c.in_ok-text.ensures.given c.text.ensures.never_falls c.write_place.ensures.cut_off

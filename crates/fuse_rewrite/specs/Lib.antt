@@ -1,0 +1,5 @@
+pub mod Uses
+pub mod Steps
+pub mod PlanText
+pub mod Arguments
+pub mod Demands

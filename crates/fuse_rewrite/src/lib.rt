@@ -1,0 +1,17 @@
+//! Which names of a script are kept, and the text of its plan.
+#![tactic(auto)]
+
+mod demand;
+mod function_text;
+mod fusing;
+mod plan;
+mod plan_text;
+mod skeleton;
+mod step;
+#[cfg(test)]
+mod tests;
+mod words;
+
+pub use plan::{Plan, plan_of};
+pub use plan_text::write_plan;
+pub use step::Step;
