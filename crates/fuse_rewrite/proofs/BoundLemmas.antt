@@ -1,6 +1,6 @@
 -- The names that a line of a typed script uses stand above it.
-use Rattle.std.proofs.Common.{◌≡◌, ℕ, ◌<◌, ◌≤◌, List, [], ◌∷◌, length, take, Option, Some, None, refl, sym, ap, ◌∙◌, arith}
-use Rattle.std.specs.Prelude.{slice_get, option_and_then}
+use Rattle.std.proofs.Common.{◌≡◌, ℕ, ◌<◌, ◌≤◌, List, [], ◌∷◌, length, take, Some, arith}
+use Rattle.std.specs.Prelude.{slice_get}
 use Rattle.std.proofs.lemmas.Option.{slice_get_within, option_and_then_some}
 use Rattle.std.proofs.lemmas.Grind.{common_steps}
 use Rattle.script_lang.specs.Syntax.{Statement, Binding, binds_input, binds_let, prints}

@@ -1,6 +1,6 @@
 -- Uses that are counted from the last line up.
-use Rattle.std.proofs.Common.{◌≡◌, ℕ, ◌+◌, ◌<◌, Bool, true, false, List, [], ◌∷◌, ◌++◌, length, map, get_or, drop, Option, Some, None, refl, sym, ap, ◌∙◌, subst, arith, inl, inr, ◌⊎◌}
-use Rattle.std.specs.Prelude.{slice_get, slice_set, slice_index_or, replicate, if◌then◌else◌}
+use Rattle.std.proofs.Common.{◌≡◌, ℕ, ◌+◌, ◌<◌, Bool, true, false, List, [], ◌∷◌, length, get_or, Some, refl, sym, ap, ◌∙◌, subst, inl, inr}
+use Rattle.std.specs.Prelude.{slice_get, slice_set, if◌then◌else◌}
 use Rattle.std.proofs.lemmas.Bool.Decides.{eqb_tells}
 use Rattle.std.proofs.lemmas.List.{get_or-set_same, get_or-set_other}
 use Rattle.std.proofs.Math.ListN.{length-set}
@@ -8,8 +8,7 @@ use Rattle.std.proofs.lemmas.Option.{slice_get-get_or}
 use Rattle.script_lang.specs.Syntax.{Statement}
 use Rattle.script_lang.specs.declared.head.Head.{Head}
 use Rattle.fuse_rewrite.specs.declared.demand.Demand.{Demand}
-use Rattle.fuse_rewrite.specs.declared.demand.Demand.TheVariants as demand
-use Rattle.fuse_rewrite.specs.Uses.{Use, by_print, by_pipe, by_other, Uses, takes_pipe, use_by, uses_of, is_needed, uses_above, uses_from}
+use Rattle.fuse_rewrite.specs.Uses.{Use, by_print, by_pipe, by_other, Uses, takes_pipe, use_by, uses_of, uses_above, uses_from}
 use Rattle.fuse_rewrite.specs.Demands.{is_by_pipe, demand_of, more_demand, AreDemands}
 
 -- one more use

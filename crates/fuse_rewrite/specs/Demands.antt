@@ -5,7 +5,7 @@ use Rattle.script_lang.specs.Tables.{same_kind}
 use Rattle.script_lang.specs.Syntax.{Binding, Skeleton, Statement, binds_input, binds_let, prints}
 use Rattle.fuse_rewrite.specs.declared.demand.Demand.{Demand}
 use Rattle.fuse_rewrite.specs.declared.demand.Demand.TheVariants as demand
-use Rattle.fuse_rewrite.specs.Uses.{Use, by_print, by_pipe, by_other, Uses, uses_of}
+use Rattle.fuse_rewrite.specs.Uses.{Use, by_pipe, Uses, uses_of}
 use Rattle.fuse_rewrite.specs.Steps.{makes_pipe, last_of}
 
 abbrev pub is_by_pipe : Use → Bool

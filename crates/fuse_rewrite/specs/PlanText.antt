@@ -1,5 +1,5 @@
 -- The text of a plan.
-use Rattle.std.specs.Prelude.{ℕ, ℤ, Bool, true, false, List, [], ◌∷◌, ◌++◌, map, codes, decimal, Option, Some, None, option_and_then, slice_get, flat_map, reverse, if◌then◌else◌}
+use Rattle.std.specs.Prelude.{ℕ, Bool, true, false, List, [], ◌∷◌, ◌++◌, map, codes, decimal, Option, Some, None, option_and_then, slice_get, flat_map, reverse, if◌then◌else◌}
 use Rattle.std.specs.Fmt.{signed_decimal}
 use Rattle.op_catalog.specs.Catalog.{name_of}
 use Rattle.tree_aux.specs.Names.{tree_name, down_name, rose_name, rose_down_name}

@@ -4,9 +4,9 @@ use Rattle.std.specs.List.{list_any}
 use Rattle.script_lang.specs.declared.kind.Kind.TheVariants as kind
 use Rattle.script_lang.specs.declared.head.Head.{Head}
 use Rattle.script_lang.specs.declared.head.Head.TheVariants as head
-use Rattle.script_lang.specs.Syntax.{Binding, Skeleton, Statement, binds_input, binds_let, prints}
+use Rattle.script_lang.specs.Syntax.{Binding, Skeleton, Statement, binds_let}
 use Rattle.script_lang.specs.Tables.{same_kind}
-use Rattle.fuse_rewrite.specs.Uses.{Use, by_print, by_pipe, by_other, Uses, uses_of, is_needed, all_uses}
+use Rattle.fuse_rewrite.specs.Uses.{Use, by_pipe, Uses, uses_of, is_needed, all_uses}
 
 -- skeletons whose list can be taken as it comes
 abbrev pub makes_pipe : Head → Bool

@@ -7,6 +7,7 @@ mod fusing;
 mod plan;
 mod plan_text;
 mod skeleton;
+mod skeleton_text;
 mod step;
 #[cfg(test)]
 mod tests;

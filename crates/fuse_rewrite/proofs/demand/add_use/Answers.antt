@@ -1,4 +1,3 @@
-use Rattle.std.proofs.Common.{sym, ◌∙◌}
 use Rattle.fuse_rewrite.proofs.DemandLemmas.{added}
 use Rattle.fuse_rewrite.proofs.demand.add_use.Goals as goal
 

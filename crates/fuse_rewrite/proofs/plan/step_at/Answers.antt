@@ -1,4 +1,4 @@
-use Rattle.std.proofs.Common.{◌∙◌, map, ap}
+use Rattle.std.proofs.Common.{◌∙◌, map}
 use Rattle.script_lang.specs.Views.{binding_of, skeleton_of, statement_of}
 use Rattle.fuse_rewrite.proofs.StepLemmas.{step_is, step_none}
 use Rattle.fuse_rewrite.proofs.plan.step_at.Goals as goal

@@ -1,13 +1,9 @@
 use Rattle.std.proofs.Common.{[], ◌∷◌, ◌++◌, map}
 use Rattle.std.specs.Prelude.{codes, reverse}
-use Rattle.std.specs.Fmt.{signed_decimal}
-use Rattle.std.proofs.lemmas.List.{append-nil}
 use Rattle.std.proofs.lemmas.Result.{err_from_is_err_and}
 use Rattle.data_text.proofs.GivenLemmas.{cut_before, cut_after, given_after}
-use Rattle.scalar_expr.specs.Views.{scalars_of}
-use Rattle.script_lang.specs.Views.{skeleton_of, statement_of}
-use Rattle.fuse_rewrite.specs.Steps.{last_of}
-use Rattle.fuse_rewrite.specs.PlanText.{head_word, op_word, parts_text, function_text, name_at, front_text, open_text, pipe_text}
+use Rattle.script_lang.specs.Views.{statement_of}
+use Rattle.fuse_rewrite.specs.PlanText.{pipe_text}
 use Rattle.fuse_rewrite.proofs.plan_text.write_after_name.Goals as goal
 
 pub returns-in_err-text-clause-cut_off : goal.returns-in_err-text-clause-cut_off

@@ -13,7 +13,7 @@ loop-left-init g c =
     record {
       within = omega arith;
       piped = piped_none (pipe_text ls c.args.n (reverse chain)) (pipe_text ls c.args.n (reverse (take (length chain) chain))) c.args.out.now _ _ c.requires.open
-        (pipe_whole ls c.args.n (length chain) chain (omega arith));
+          (pipe_whole ls c.args.n (length chain) chain (omega arith));
     }
 
 pub loop-left-preserved : goal.loop-left-preserved
@@ -26,8 +26,8 @@ loop-left-preserved g c =
     record {
       within = omega arith;
       piped = piped_more (pipe_text ls c.args.n (reverse chain)) (pipe_text ls c.loop-left.next (reverse (take c.loop-left.left chain))) (text_of open_text (skeleton_at ls c.loop-left.next))
-        (pipe_text ls (get_or chain i 0) (reverse (take i chain))) _ _ _ _ _ _ _ _ _ (pipe_next ls c.loop-left.next c.loop-left.left i chain up lt) c.write_open_at.ensures.never_falls
-        c.loop-left.invariant.piped c.in_ok-write_open_at.ensures.given;
+          (pipe_text ls (get_or chain i 0) (reverse (take i chain))) _ _ _ _ _ _ _ _ _ (pipe_next ls c.loop-left.next c.loop-left.left i chain up lt) c.write_open_at.ensures.never_falls
+          c.loop-left.invariant.piped c.in_ok-write_open_at.ensures.given;
     }
 
 pub returns-in_err-write_open_at-clause-cut_off : goal.returns-in_err-write_open_at-clause-cut_off
