@@ -1,4 +1,4 @@
--- How a run and a check end.
+-- How a run ends, and a command that tells of a script.
 use Rattle.std.proofs.Common.{◌≡◌, ◌≢◌, ℕ, ℤ, ◌⊎◌, inl, inr, List, Option, Some, None, IfSome, Result, Ok, Err, ap, sym, refl, ◌∙◌}
 use Rattle.std.specs.Prelude.{IsSomeAnd, IsErr, true}
 use Rattle.std.specs.Result.{is_err}
@@ -10,7 +10,6 @@ use Rattle.data_text.specs.Data.{Section, sections_of}
 use Rattle.script_lang.specs.declared.fault.ScriptFault.{ScriptFault}
 use Rattle.script_lang.specs.Syntax.{Statement}
 use Rattle.script_lang.specs.Script.{script}
-use Rattle.script_lang.specs.TypesText.{types_text}
 use Rattle.sketo_run.specs.Commands.{Files}
 use Rattle.sketo_run.specs.Reductions.{Reduction, reduction_of, IsReduceScript, IsBuilt, IsNotBuilt}
 use Rattle.sketo_run.specs.Answer.{IsAnswer, IsRefused, DataRefusal, faulty, unfit, numbers_in}
@@ -22,7 +21,9 @@ use Rattle.sketo_run.specs.declared.stop.Stop.{Stop}
 use Rattle.sketo_run.specs.declared.stop.Stop.TheVariants as stop
 use Rattle.sketo_run.specs.Statuses.{code_of}
 use Rattle.sketo_run.specs.Stops.{status_of, line_of}
-use Rattle.sketo_run.specs.Ends.{WhereTold, IsPrinted, IsPrintedInPart, AreTypesPrinted, AreTypesPrintedInPart, IsScriptRefused, IsDataRefused, IsUnread, IsRefusedStatus, IsFaultless, IsCheckFaultless}
+use Rattle.sketo_run.specs.Ends.{WhereTold, IsPrinted, IsPrintedInPart, IsTold, IsToldInPart, IsScriptRefused, IsDataRefused, IsUnread, IsRefusedStatus, IsFaultless, IsTellingFaultless}
+use Rattle.sketo_run.specs.declared.telling.Told.{Told}
+use Rattle.sketo_run.specs.Accounts.{IsAccount}
 use Rattle.sketo_run.proofs.AnswerLemmas.{one}
 
 -- what follows from the contents of two files
@@ -41,11 +42,11 @@ pub printed_in_part : (content : List ℕ → Option (List ℕ)) (files : Files)
 printed_in_part content files answer w w' h went =
     where_told (content files.script) (content files.input) (λ s d. IsAnswer s d answer) (IsPrintedInPart w w') h (λ s d a. (answer, a, went))
 
-pub types_printed : (o : Option (List ℕ)) (lines : List Statement) (w w' : Option (List ℕ)) → IfSome o (λ bytes. script bytes ≡ Ok lines) → Appends w w' (types_text lines) → IfSome o (AreTypesPrinted w w')
-types_printed o lines w w' h went = one o (λ bytes. script bytes ≡ Ok lines) (AreTypesPrinted w w') h (λ bytes a. (lines, a, went))
+pub told_printed : (o : Option (List ℕ)) (what : Told) (text : List ℕ) (w w' : Option (List ℕ)) → IfSome o (λ bytes. IsAccount what bytes text) → Appends w w' text → IfSome o (IsTold what w w')
+told_printed o what text w w' h went = one o (λ bytes. IsAccount what bytes text) (IsTold what w w') h (λ bytes a. (a.0, a.1, rw (sym a.2) went))
 
-pub types_printed_in_part : (o : Option (List ℕ)) (lines : List Statement) (w w' : Option (List ℕ)) → IfSome o (λ bytes. script bytes ≡ Ok lines) → AppendsFront w w' (types_text lines) → IfSome o (AreTypesPrintedInPart w w')
-types_printed_in_part o lines w w' h went = one o (λ bytes. script bytes ≡ Ok lines) (AreTypesPrintedInPart w w') h (λ bytes a. (lines, a, went))
+pub told_in_part : (o : Option (List ℕ)) (what : Told) (text : List ℕ) (w w' : Option (List ℕ)) → IfSome o (λ bytes. IsAccount what bytes text) → AppendsFront w w' text → IfSome o (IsToldInPart what w w')
+told_in_part o what text w w' h went = one o (λ bytes. IsAccount what bytes text) (IsToldInPart what w w') h (λ bytes a. (a.0, a.1, rw (sym a.2) went))
 
 -- which status has a number
 pub answered_code : (s : Status) (r : ℕ) → r ≡ code_of s → r ≡ 0 → s ≡ status.Answered
@@ -185,39 +186,39 @@ stops_refused content files s r w w' f f' e cause told four =
     where_told (content files.script) (content files.input) (IsCauseOf s) (IsDataRefused files.input w w' f f') cause
     (λ script input why. told_why files.input files s r script input w w' f f' refl e four why told)
 
--- ---- checks
+-- ---- scripts alone
 
-check_why : (file : List ℕ) (files : Files) (s : Stop) (r : ℕ) (w w' : Option (List ℕ)) (f f' : ℕ) (bytes : List ℕ) → file ≡ files.script → r ≡ code_of (status_of s) → r ≡ 3
+telling_why : (file : List ℕ) (files : Files) (s : Stop) (r : ℕ) (w w' : Option (List ℕ)) (f f' : ℕ) (bytes : List ℕ) → file ≡ files.script → r ≡ code_of (status_of s) → r ≡ 3
     → IsRefusalOf s bytes → IsReported (line_of s files) w w' f f' → IsScriptRefused file w w' f f' bytes
-check_why file files stop.ScriptUnread r w w' f f' bytes same e z why told = let different : ◌≡◌ {A = ℕ} 5 3 = sym e ∙ z in cc
-check_why file files stop.DataUnread r w w' f f' bytes same e z why told = let different : ◌≡◌ {A = ℕ} 5 3 = sym e ∙ z in cc
-check_why file files (stop.BadScript fault) r w w' f f' bytes same e z why told = (fault, why, rw same told)
-check_why file files (stop.BadData fault) r w w' f f' bytes same e z why told = let different : ◌≡◌ {A = ℕ} 4 3 = sym e ∙ z in cc
-check_why file files (stop.Unfit fault name) r w w' f f' bytes same e z why told = let different : ◌≡◌ {A = ℕ} 4 3 = sym e ∙ z in cc
-check_why file files stop.NoMemory r w w' f f' bytes same e z why told = let different : ◌≡◌ {A = ℕ} 7 3 = sym e ∙ z in cc
-check_why file files stop.NotBuilt r w w' f f' bytes same e z why told = let different : ◌≡◌ {A = ℕ} 8 3 = sym e ∙ z in cc
+telling_why file files stop.ScriptUnread r w w' f f' bytes same e z why told = let different : ◌≡◌ {A = ℕ} 5 3 = sym e ∙ z in cc
+telling_why file files stop.DataUnread r w w' f f' bytes same e z why told = let different : ◌≡◌ {A = ℕ} 5 3 = sym e ∙ z in cc
+telling_why file files (stop.BadScript fault) r w w' f f' bytes same e z why told = (fault, why, rw same told)
+telling_why file files (stop.BadData fault) r w w' f f' bytes same e z why told = let different : ◌≡◌ {A = ℕ} 4 3 = sym e ∙ z in cc
+telling_why file files (stop.Unfit fault name) r w w' f f' bytes same e z why told = let different : ◌≡◌ {A = ℕ} 4 3 = sym e ∙ z in cc
+telling_why file files stop.NoMemory r w w' f f' bytes same e z why told = let different : ◌≡◌ {A = ℕ} 7 3 = sym e ∙ z in cc
+telling_why file files stop.NotBuilt r w w' f f' bytes same e z why told = let different : ◌≡◌ {A = ℕ} 8 3 = sym e ∙ z in cc
 
-pub check_script : (o : Option (List ℕ)) (files : Files) (s : Stop) (r : ℕ) (w w' : Option (List ℕ)) (f f' : ℕ) → r ≡ code_of (status_of s)
+pub telling_script : (o : Option (List ℕ)) (files : Files) (s : Stop) (r : ℕ) (w w' : Option (List ℕ)) (f f' : ℕ) → r ≡ code_of (status_of s)
     → IfSome o (IsRefusalOf s) → IsReported (line_of s files) w w' f f' → r ≡ 3 → IfSome o (IsScriptRefused files.script w w' f f')
-check_script o files s r w w' f f' e cause told three =
-    one o (IsRefusalOf s) (IsScriptRefused files.script w w' f f') cause (λ bytes why. check_why files.script files s r w w' f f' bytes refl e three why told)
+telling_script o files s r w w' f f' e cause told three =
+    one o (IsRefusalOf s) (IsScriptRefused files.script w w' f f') cause (λ bytes why. telling_why files.script files s r w w' f f' bytes refl e three why told)
 
--- a check without faults of a script that is accepted stops for want of memory alone
+-- a command that tells of a script without faults of a script that is accepted stops for want of memory alone
 refused_and_accepted : (o : Option (List ℕ)) (fault : ScriptFault) → IfSome o (λ bytes. script bytes ≡ Err fault) → IsSomeAnd o (λ bytes. (lines : List Statement) × (script bytes ≡ Ok lines)) → ⊥
 refused_and_accepted None fault h k = k
 refused_and_accepted (Some bytes) fault h k =
     let both_are : ◌≡◌ {A = Result (List Statement) ScriptFault} (Ok k.0) (Err fault) = sym k.1 ∙ h in cc
 
-pub check_faultless : (content : List ℕ → Option (List ℕ)) (file : List ℕ) (s : Stop) (r : ℕ) (faults faults' : List ℕ → ℕ) (out out' : ℕ) → r ≡ code_of (status_of s)
+pub telling_faultless : (content : List ℕ → Option (List ℕ)) (file : List ℕ) (s : Stop) (r : ℕ) (faults faults' : List ℕ → ℕ) (out out' : ℕ) → r ≡ code_of (status_of s)
     → IfSome (content file) (IsRefusalOf s) → IsOfScript s → (s ≡ stop.ScriptUnread → Rose (faults file) (faults' file))
-    → IsCheckFaultless content file faults faults' out out' → (r ≡ 0) ⊎ (r ≡ 7)
-check_faultless content file stop.ScriptUnread r f f' o o' e cause alone script h = absurd (h.script_read (script refl))
-check_faultless content file stop.NoMemory r f f' o o' e cause alone script h = inr e
-check_faultless content file (stop.BadScript fault) r f f' o o' e cause alone script h = absurd (refused_and_accepted (content file) fault cause h.accepted)
-check_faultless content file stop.DataUnread r f f' o o' e cause alone script h = absurd alone
-check_faultless content file (stop.BadData fault) r f f' o o' e cause alone script h = absurd alone
-check_faultless content file (stop.Unfit fault name) r f f' o o' e cause alone script h = absurd alone
-check_faultless content file stop.NotBuilt r f f' o o' e cause alone script h = absurd alone
+    → IsTellingFaultless content file faults faults' out out' → (r ≡ 0) ⊎ (r ≡ 7)
+telling_faultless content file stop.ScriptUnread r f f' o o' e cause alone script h = absurd (h.script_read (script refl))
+telling_faultless content file stop.NoMemory r f f' o o' e cause alone script h = inr e
+telling_faultless content file (stop.BadScript fault) r f f' o o' e cause alone script h = absurd (refused_and_accepted (content file) fault cause h.accepted)
+telling_faultless content file stop.DataUnread r f f' o o' e cause alone script h = absurd alone
+telling_faultless content file (stop.BadData fault) r f f' o o' e cause alone script h = absurd alone
+telling_faultless content file (stop.Unfit fault name) r f f' o o' e cause alone script h = absurd alone
+telling_faultless content file stop.NotBuilt r f f' o o' e cause alone script h = absurd alone
 
 -- ---- scripts at fault
 
@@ -240,18 +241,18 @@ run_at_fault o s r e cause = one o (IsScriptOf s) (λ bytes. IsErr (script bytes
 pub no_run_at_fault : (o : Option (List ℕ)) (r : ℕ) → IfSome o IsBuilt → IfSome o (λ bytes. IsErr (script bytes) → IsRefusedStatus r)
 no_run_at_fault o r built = one o IsBuilt (λ bytes. IsErr (script bytes) → IsRefusedStatus r) built (λ bytes b h. absurd (at_no_fault bytes b.1.lines b.1.accepted h))
 
-check_of_fault : (s : Stop) (r : ℕ) → r ≡ code_of (status_of s) → IsOfScript s → IsRefusedStatus r
-check_of_fault stop.ScriptUnread r e alone = inr (inl e)
-check_of_fault (stop.BadScript fault) r e alone = inl e
-check_of_fault stop.NoMemory r e alone = inr (inr e)
-check_of_fault stop.DataUnread r e alone = absurd alone
-check_of_fault (stop.BadData fault) r e alone = absurd alone
-check_of_fault (stop.Unfit fault name) r e alone = absurd alone
-check_of_fault stop.NotBuilt r e alone = absurd alone
+telling_of_fault : (s : Stop) (r : ℕ) → r ≡ code_of (status_of s) → IsOfScript s → IsRefusedStatus r
+telling_of_fault stop.ScriptUnread r e alone = inr (inl e)
+telling_of_fault (stop.BadScript fault) r e alone = inl e
+telling_of_fault stop.NoMemory r e alone = inr (inr e)
+telling_of_fault stop.DataUnread r e alone = absurd alone
+telling_of_fault (stop.BadData fault) r e alone = absurd alone
+telling_of_fault (stop.Unfit fault name) r e alone = absurd alone
+telling_of_fault stop.NotBuilt r e alone = absurd alone
 
-pub check_at_fault : (o : Option (List ℕ)) (s : Stop) (r : ℕ) → r ≡ code_of (status_of s) → IsOfScript s → IfSome o (λ bytes. IsErr (script bytes) → IsRefusedStatus r)
-check_at_fault None s r e alone = tt
-check_at_fault (Some bytes) s r e alone = λ h. check_of_fault s r e alone
+pub telling_at_fault : (o : Option (List ℕ)) (s : Stop) (r : ℕ) → r ≡ code_of (status_of s) → IsOfScript s → IfSome o (λ bytes. IsErr (script bytes) → IsRefusedStatus r)
+telling_at_fault None s r e alone = tt
+telling_at_fault (Some bytes) s r e alone = λ h. telling_of_fault s r e alone
 
-pub no_check_at_fault : (o : Option (List ℕ)) (r : ℕ) (lines : List Statement) → IfSome o (λ bytes. script bytes ≡ Ok lines) → IfSome o (λ bytes. IsErr (script bytes) → IsRefusedStatus r)
-no_check_at_fault o r lines good = one o (λ bytes. script bytes ≡ Ok lines) (λ bytes. IsErr (script bytes) → IsRefusedStatus r) good (λ bytes a h. absurd (at_no_fault bytes lines a h))
+pub no_telling_at_fault : (o : Option (List ℕ)) (what : Told) (text : List ℕ) (r : ℕ) → IfSome o (λ bytes. IsAccount what bytes text) → IfSome o (λ bytes. IsErr (script bytes) → IsRefusedStatus r)
+no_telling_at_fault o what text r good = one o (λ bytes. IsAccount what bytes text) (λ bytes. IsErr (script bytes) → IsRefusedStatus r) good (λ bytes a h. absurd (at_no_fault bytes a.0 a.1 h))

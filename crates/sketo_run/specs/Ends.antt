@@ -7,6 +7,9 @@ use Rattle.script_lang.specs.declared.fault.ScriptFault.{ScriptFault}
 use Rattle.script_lang.specs.Syntax.{Statement}
 use Rattle.script_lang.specs.Script.{script}
 use Rattle.script_lang.specs.TypesText.{types_text}
+use Rattle.fuse_rewrite.specs.PlanText.{plan_text}
+use Rattle.sketo_run.specs.declared.telling.Told.{Told}
+use Rattle.sketo_run.specs.declared.telling.Told.TheVariants as told
 use Rattle.sketo_run.specs.Reductions.{Reduction, IsBuilt}
 use Rattle.sketo_run.specs.Commands.{Files}
 use Rattle.sketo_run.specs.Report.{IsReported, script_line, data_line}
@@ -20,17 +23,17 @@ WhereTold content files P = IfSome (content files.script) (λ script. IfSome (co
 abbrev pub AreTold : (List ℕ → Option (List ℕ)) → Files → (List ℕ → List ℕ → Type 0) → Type 0
 AreTold content files P = IsSomeAnd (content files.script) (λ script. IsSomeAnd (content files.input) (λ input. P script input))
 
--- of a run or a check of a script that is at fault: the script is refused, a read failed, or memory was refused
+-- of a command whose script is at fault: the script is refused, a read failed, or memory was refused
 abbrev pub IsRefusedStatus : ℕ → Type 0
 IsRefusedStatus n = (n ≡ 3) ⊎ ((n ≡ 5) ⊎ (n ≡ 7))
 
--- of a check: answered, the script is refused, a read failed, a write failed, or memory was refused
-abbrev pub IsCheckStatus : ℕ → Type 0
-IsCheckStatus n = (n ≡ 0) ⊎ ((n ≡ 3) ⊎ ((n ≡ 5) ⊎ ((n ≡ 6) ⊎ (n ≡ 7))))
+-- of a command that tells of a script: answered, the script is refused, a read failed, a write failed, or memory was refused
+abbrev pub IsTellingStatus : ℕ → Type 0
+IsTellingStatus n = (n ≡ 0) ⊎ ((n ≡ 3) ⊎ ((n ≡ 5) ⊎ ((n ≡ 6) ⊎ (n ≡ 7))))
 
 -- of a run: those, and that the data is refused, or a form isn't built
 abbrev pub IsRunStatus : ℕ → Type 0
-IsRunStatus n = IsCheckStatus n ⊎ ((n ≡ 4) ⊎ (n ≡ 8))
+IsRunStatus n = IsTellingStatus n ⊎ ((n ≡ 4) ⊎ (n ≡ 8))
 
 -- those, and that the words are refused
 abbrev pub IsStatus : ℕ → Type 0
@@ -44,13 +47,18 @@ IsPrinted before after script input = (answer : Named) × IsAnswer script input 
 abbrev pub IsPrintedInPart : Option (List ℕ) → Option (List ℕ) → List ℕ → List ℕ → Type 0
 IsPrintedInPart before after script input = (answer : Named) × IsAnswer script input answer × AppendsFront before after (text_of answer)
 
--- the types of a script's names went out
-abbrev pub AreTypesPrinted : Option (List ℕ) → Option (List ℕ) → List ℕ → Type 0
-AreTypesPrinted before after bytes = (lines : List Statement) × (script bytes ≡ Ok lines) × Appends before after (types_text lines)
+-- what is told of a script: the types of its names, or its plan
+abbrev pub told_text : Told → List Statement → List ℕ
+told_text told.Types lines = types_text lines
+told_text told.Plan lines = plan_text lines
 
--- a front of them went out
-abbrev pub AreTypesPrintedInPart : Option (List ℕ) → Option (List ℕ) → List ℕ → Type 0
-AreTypesPrintedInPart before after bytes = (lines : List Statement) × (script bytes ≡ Ok lines) × AppendsFront before after (types_text lines)
+-- what is told of a script went out
+abbrev pub IsTold : Told → Option (List ℕ) → Option (List ℕ) → List ℕ → Type 0
+IsTold what before after bytes = (lines : List Statement) × (script bytes ≡ Ok lines) × Appends before after (told_text what lines)
+
+-- a front of it went out
+abbrev pub IsToldInPart : Told → Option (List ℕ) → Option (List ℕ) → List ℕ → Type 0
+IsToldInPart what before after bytes = (lines : List Statement) × (script bytes ≡ Ok lines) × AppendsFront before after (told_text what lines)
 
 -- the script is refused, and the line of this file tells why
 abbrev pub IsScriptRefused : List ℕ → Option (List ℕ) → Option (List ℕ) → ℕ → ℕ → List ℕ → Type 0
@@ -77,7 +85,7 @@ pub record IsFaultless (content : List ℕ → Option (List ℕ)) (files : Files
   pub written : Rose out out' → ⊥
 
 -- The script is told and accepted, and no count of faults rose: of the script and of output.
-pub record IsCheckFaultless (content : List ℕ → Option (List ℕ)) (file : List ℕ) (faults faults' : List ℕ → ℕ) (out out' : ℕ) : Type 0 where
+pub record IsTellingFaultless (content : List ℕ → Option (List ℕ)) (file : List ℕ) (faults faults' : List ℕ → ℕ) (out out' : ℕ) : Type 0 where
   pub accepted : IsSomeAnd (content file) (λ bytes. (lines : List Statement) × (script bytes ≡ Ok lines))
   pub script_read : Rose (faults file) (faults' file) → ⊥
   pub written : Rose out out' → ⊥

@@ -9,6 +9,7 @@ pub mod Fit
 pub mod Answer
 pub mod Report
 pub mod Ends
+pub mod Accounts
 pub mod Stops
 pub mod Causes
 pub mod Statuses

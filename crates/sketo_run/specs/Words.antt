@@ -10,6 +10,8 @@ use Rattle.sketo_run.specs.declared.command.Verb.TheVariants.{Run, Check, Plan, 
 use Rattle.sketo_run.specs.declared.command.Setting.{Setting}
 use Rattle.sketo_run.specs.declared.command.Setting.TheVariants.{M, Block, Workers}
 use Rattle.sketo_run.specs.declared.command.Settings.{Settings}
+use Rattle.sketo_run.specs.declared.telling.Told.{Told}
+use Rattle.sketo_run.specs.declared.telling.Told.TheVariants as told
 use Rattle.sketo_run.specs.declared.refusal.WordFault.{WordFault}
 use Rattle.sketo_run.specs.declared.refusal.WordFault.TheVariants.{UnknownCommand, UnknownOption, GivenTwice, NoValue, BadNumber, BadName, InputTwice, OneTooMany}
 use Rattle.sketo_run.specs.Commands.{Files, Command, run, check, plan, bridges, trial, verb_of, operand_count, setting_of, option_of, greatest_of, default_of, greatest_seed}
@@ -133,18 +135,25 @@ files_in answer = None
 abbrev pub run_files : List (List ℕ) → Option Files
 run_files words = files_in (command_line words)
 
--- the script of a check, where the words ask for one
-abbrev pub checked_in : Result Command Refusal → Option (List ℕ)
-checked_in (Ok (check script)) = Some script
-checked_in answer = None
+-- a script, and what a command tells of it alone
+pub record Telling : Type 0 where
+  pub what : Told
+  pub script : List ℕ
 
-abbrev pub check_file : List (List ℕ) → Option (List ℕ)
-check_file words = checked_in (command_line words)
+-- that, where the words ask for it
+abbrev pub telling_in : Result Command Refusal → Option Telling
+telling_in (Ok (check script)) = Some (record { what = told.Types; script = script })
+telling_in (Ok (plan script)) = Some (record { what = told.Plan; script = script })
+telling_in answer = None
 
--- the script of a run or a check
+abbrev pub telling : List (List ℕ) → Option Telling
+telling words = telling_in (command_line words)
+
+-- the script of any command that reads one
 abbrev pub script_in : Result Command Refusal → Option (List ℕ)
 script_in (Ok (run files settings)) = Some files.script
 script_in (Ok (check script)) = Some script
+script_in (Ok (plan script)) = Some script
 script_in answer = None
 
 abbrev pub script_file : List (List ℕ) → Option (List ℕ)

@@ -2,7 +2,6 @@
 #![tactic(auto)]
 
 mod answer;
-mod check;
 mod command;
 mod command_line;
 mod given;
@@ -10,6 +9,7 @@ mod inputs;
 mod item;
 mod number;
 mod operands;
+mod planned;
 mod print;
 mod reduction;
 mod refusal;
@@ -19,6 +19,7 @@ mod script_text;
 mod scripts;
 mod status;
 mod stop;
+mod telling;
 mod top;
 
 pub use inputs::{FitFault, fit};

@@ -6,7 +6,6 @@ ghost use Rattle.sketo_run.specs.Report.{IsReported, write_failed};
 use crate::report::report_unwritten;
 use crate::status::Status;
 use data_text::{Failed, Named, Outlet, Sink, write_value};
-use script_lang::{Script, write_types};
 
 /// What a command answers.
 pub trait Answer {
@@ -30,18 +29,6 @@ impl Answer for Named {
 
     fn write<O: Sink>(&self, out: &mut Outlet, sink: &mut O) -> Result<(), Failed> {
         write_value(self, out, sink)
-    }
-}
-
-impl Answer for Script {
-    ghost use Rattle.std.specs.Prelude.{map};
-    ghost use Rattle.script_lang.specs.TypesText.{types_text};
-    ghost use Rattle.script_lang.specs.Views.{statement_of};
-
-    ghost text = { λ s. types_text (map statement_of s) };
-
-    fn write<O: Sink>(&self, out: &mut Outlet, sink: &mut O) -> Result<(), Failed> {
-        write_types(self, out, sink)
     }
 }
 

@@ -1,20 +1,20 @@
 //! The top call.
 ghost use Rattle.std.specs.Prelude.{◌≡◌, ◌⊎◌, ℕ, List, None, IfErr, IfSome, IsOk, IsErr, IsSomeAnd};
 ghost use Rattle.outside.specs.Outside.{Rose, NoneFell};
-ghost use Rattle.sketo_run.specs.Words.{command_line, run_files, check_file, script_file, texts_of};
+ghost use Rattle.sketo_run.specs.Words.{command_line, run_files, telling, script_file, texts_of};
 ghost use Rattle.script_lang.specs.Script.{script as language};
 ghost use Rattle.sketo_run.specs.Refusals.{refusal_line};
 ghost use Rattle.sketo_run.specs.Reductions.{IsNotBuilt};
 ghost use Rattle.sketo_run.specs.Report.{IsReported, read_failed, write_failed, no_memory, not_built};
-ghost use Rattle.sketo_run.specs.Ends.{WhereTold, IsPrinted, IsPrintedInPart, AreTypesPrinted, AreTypesPrintedInPart, IsScriptRefused, IsDataRefused, IsUnread, IsStatus, IsRefusedStatus, IsFaultless, IsCheckFaultless};
+ghost use Rattle.sketo_run.specs.Ends.{WhereTold, IsPrinted, IsPrintedInPart, IsTold, IsToldInPart, IsScriptRefused, IsDataRefused, IsUnread, IsStatus, IsRefusedStatus, IsFaultless, IsTellingFaultless};
 
-use crate::check::check;
 use crate::command::Command;
 use crate::command_line::read_words;
 use crate::report::{report_refusal, report_stop};
 use crate::run::run;
 use crate::status::Status;
 use crate::stop::Stop;
+use crate::telling::{Told, tell};
 use data_text::{Shelf, Sink};
 use std::alloc::Global;
 
@@ -38,8 +38,8 @@ pub fn sketo<F: Shelf, O: Sink, E: Sink>(
 
     ensures answered { result ≡ 0 → IsSomeAnd (run_files (texts_of words.now)) (λ files.
         WhereTold (F.content shelf.old) files (IsPrinted (O.written out.old) (O.written out.new)))
-        ⊎ IsSomeAnd (check_file (texts_of words.now)) (λ script.
-        IfSome (F.content shelf.old script) (AreTypesPrinted (O.written out.old) (O.written out.new))) }
+        ⊎ IsSomeAnd (telling (texts_of words.now)) (λ t.
+        IfSome (F.content shelf.old t.script) (IsTold t.what (O.written out.old) (O.written out.new))) }
     ensures quiet { result ≡ 0 → err.new ≡ err.old }
 
     ensures script_refused { result ≡ 3 → IsSomeAnd (script_file (texts_of words.now)) (λ script.
@@ -53,29 +53,29 @@ pub fn sketo<F: Shelf, O: Sink, E: Sink>(
     ensures read_failed { result ≡ 5 → IsSomeAnd (run_files (texts_of words.now)) (λ files. (file : List ℕ)
         × IsUnread (F.content shelf.old) files (F.faults shelf.old) (F.faults shelf.new) file
         × IsReported (read_failed file) (E.written err.old) (E.written err.new) (E.faults err.old) (E.faults err.new))
-        ⊎ IsSomeAnd (check_file (texts_of words.now)) (λ script.
-        Rose (F.faults shelf.old script) (F.faults shelf.new script)
-        × IsReported (read_failed script) (E.written err.old) (E.written err.new) (E.faults err.old) (E.faults err.new)) }
+        ⊎ IsSomeAnd (telling (texts_of words.now)) (λ t.
+        Rose (F.faults shelf.old t.script) (F.faults shelf.new t.script)
+        × IsReported (read_failed t.script) (E.written err.old) (E.written err.new) (E.faults err.old) (E.faults err.new)) }
 
     ensures write_failed { result ≡ 6 → Rose (O.faults out.old) (O.faults out.new) }
     ensures in_part { result ≡ 6 → IsSomeAnd (run_files (texts_of words.now)) (λ files.
         WhereTold (F.content shelf.old) files (IsPrintedInPart (O.written out.old) (O.written out.new)))
-        ⊎ IsSomeAnd (check_file (texts_of words.now)) (λ script.
-        IfSome (F.content shelf.old script) (AreTypesPrintedInPart (O.written out.old) (O.written out.new))) }
+        ⊎ IsSomeAnd (telling (texts_of words.now)) (λ t.
+        IfSome (F.content shelf.old t.script) (IsToldInPart t.what (O.written out.old) (O.written out.new))) }
     ensures write_line { result ≡ 6 → IsReported write_failed (E.written err.old) (E.written err.new) (E.faults err.old) (E.faults err.new) }
 
     ensures memory_line { result ≡ 7 → IsReported no_memory (E.written err.old) (E.written err.new) (E.faults err.old) (E.faults err.new) }
 
     ensures not_built { result ≡ 8 → IfSome (run_files (texts_of words.now)) (λ files. IfSome (F.content shelf.old files.script) IsNotBuilt) }
     ensures others_not_built { IsOk (command_line (texts_of words.now)) → script_file (texts_of words.now) ≡ None → result ≡ 8 }
-    ensures checks_are_built { result ≡ 8 → check_file (texts_of words.now) ≡ None }
+    ensures tellings_are_built { result ≡ 8 → telling (texts_of words.now) ≡ None }
     ensures not_built_line { result ≡ 8 → IsReported not_built (E.written err.old) (E.written err.new) (E.faults err.old) (E.faults err.new) }
 
     ensures complete { IfSome (run_files (texts_of words.now)) (λ files.
         IsFaultless (F.content shelf.old) files (F.faults shelf.old) (F.faults shelf.new) (O.faults out.old) (O.faults out.new) → (result ≡ 0) ⊎ (result ≡ 7)) }
 
-    ensures complete_check { IfSome (check_file (texts_of words.now)) (λ script.
-        IsCheckFaultless (F.content shelf.old) script (F.faults shelf.old) (F.faults shelf.new) (O.faults out.old) (O.faults out.new) → (result ≡ 0) ⊎ (result ≡ 7)) }
+    ensures complete_telling { IfSome (telling (texts_of words.now)) (λ t.
+        IsTellingFaultless (F.content shelf.old) t.script (F.faults shelf.old) (F.faults shelf.new) (O.faults out.old) (O.faults out.new) → (result ≡ 0) ⊎ (result ≡ 7)) }
 
     ensures unwritten { (result ≡ 2) ⊎ ((result ≡ 3) ⊎ ((result ≡ 4) ⊎ ((result ≡ 5) ⊎ ((result ≡ 7) ⊎ (result ≡ 8))))) → out.new ≡ out.old }
     ensures content { F.content shelf.new ≡ F.content shelf.old }
@@ -84,7 +84,8 @@ pub fn sketo<F: Shelf, O: Sink, E: Sink>(
 {
     match read_words(words) {
         Ok(Command::Run(files, _)) => run(alloc, files.script, files.input, shelf, out, err),
-        Ok(Command::Check(script)) => check(alloc, script, shelf, out, err),
+        Ok(Command::Check(script)) => tell(alloc, Told::Types, script, shelf, out, err),
+        Ok(Command::Plan(script)) => tell(alloc, Told::Plan, script, shelf, out, err),
         Ok(_) => {
             report_stop(err, &Stop::NotBuilt, "", "");
             Status::NotBuilt.code()

@@ -321,6 +321,36 @@ fn a_check_tells_the_type_of_each_name(rt: HostRuntime) -> Result<(), Fail> {
     Ok(())
 }
 
+// Scripts, and their plans.
+const PLANNED: &str = "\
+input x list / let r = reduce add x / print r => r = reduce add <- x
+input a list / input b list like a / let p = zip a b / let f = reduce affine p / let q = rev p / let g = reduce affine q / print f / print g => p = zip a b / f = reduce affine <- p / g = reduce affine <- rev <- p
+input x list / let e = filter (= (and #0 1) 0) x / let s = map (* #0 #0) e / let r = reduce add s / print r => r = reduce add <- map (* #0 #0) <- filter (= (and #0 1) 0) <- x
+input x list / let e = filter (= (and #0 1) 0) x / let s = map (* #0 #0) e / let r = reduce add s / print e / print r => e = filter (= (and #0 1) 0) <- x / r = reduce add <- map (* #0 #0) <- e
+input t tree / let p = dacc pathsum 0 t / let u = uacc sum t / print p => p = dacc pathsum 0 <- t
+input x list / let i = iota x / let e = map (tuple #0 -3) i / let m = reduce affine e / print m => m = reduce affine <- map (tuple #0 -3) <- iota x";
+
+#[test]
+fn a_plan_tells_what_is_built(rt: HostRuntime) -> Result<(), Fail> {
+    let alloc = rt.alloc();
+    let mut count = 0u64;
+    for row in PLANNED.lines() {
+        let Some((lines, plan)) = row.split_once(" => ") else {
+            continue;
+        };
+        count = count.saturating_add(1);
+        let (script, out) = (script_of(alloc, lines)?, script_of(alloc, plan)?);
+        let end = run_sure(alloc, "plan s", Some(script.as_str()), None)?;
+        assert_end(&rt, &end, 0, out.as_str(), "", row);
+    }
+    assert_eq!(rt; count, 6);
+    let end = run_sure(alloc, "plan s", Some("print r\n"), None)?;
+    assert_end(&rt, &end, 3, "", "script: s: line 1, column 7: unknown name\n", "a fault");
+    let end = run_sure(alloc, "plan s", None, Some(FIVE))?;
+    assert_end(&rt, &end, 5, "", "read: s: failed\n", "an absent script");
+    Ok(())
+}
+
 #[test]
 fn refused_data_is_told_by_its_first_fault(rt: HostRuntime) -> Result<(), Fail> {
     let alloc = rt.alloc();
@@ -389,7 +419,7 @@ fn settings_change_no_answer_and_other_commands_are_not_built(rt: HostRuntime) -
         let end = run_sure(alloc, line, Some(SUM), Some(FIVE))?;
         assert_end(&rt, &end, 0, "r value 15\n", "", line);
     }
-    for line in ["plan s", "plan absent", "bridges d t --m 3", "trial 1"] {
+    for line in ["bridges d t --m 3", "bridges absent t", "trial 1"] {
         let end = run_sure(alloc, line, Some(SUM), Some(FIVE))?;
         assert_end(&rt, &end, 8, "", "stage: not built\n", line);
     }
