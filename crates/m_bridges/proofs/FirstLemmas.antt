@@ -1,12 +1,14 @@
 -- A bridge's hole is the first critical place from its root on.
 use Rattle.std.proofs.Common.{◌≡◌, ℕ, zero, suc, ◌+◌, ◌-◌, ◌/◌, ◌<◌, ◌≤◌, Bool, true, false, cond, ◌&&◌, refl, sym, ◌∙◌, ap, subst, arith, inl, inr, nat_lt, Option, Some, None, List, length, get_or, set}
 use Rattle.std.proofs.lemmas.Bool.{cases_lt, cases_eq}
+use Rattle.std.proofs.lemmas.Bool.Decides.{nat_tests}
 use Rattle.std.proofs.lemmas.List.{length-set, get_or-set_same, get_or-set_other}
 use Rattle.op_laws.specs.Trees.{BTree, Leaf, Node, size, sub_at}
 use Rattle.bin_tree.proofs.TreeLemmas.{size_pos, sub_at-left, sub_at-right, within_at, node_at}
 use Rattle.bin_tree.proofs.Places.{sub_sub, node_of_size}
-use Rattle.m_bridges.specs.Parts.{is_critical, IsCritical, hole_of, either, further}
+use Rattle.m_bridges.specs.Parts.{rank, is_critical, IsCritical, hole_of, either, further}
 use Rattle.m_bridges.specs.Next.{IsNext, AreNext}
+use Rattle.m_bridges.proofs.Ranks.{rank_small, rank_pos}
 use Rattle.m_bridges.proofs.Cuts.{true_or_false, hole_at, when_critical, critical_when}
 
 abbrev pub IsFirst : {A : Type 0} → ℕ → BTree A → Option ℕ → Type 0
@@ -145,13 +147,20 @@ module _ {A : Type 0} (m : ℕ) where
             ∙ ap (λ k. nat_lt ((size (sub_at t (i + 1)) + (m - 1)) / m) ((size (sub_at t i) + (m - 1)) / m) && nat_lt ((k + (m - 1)) / m) ((size (sub_at t i) + (m - 1)) / m)) er)),
       )
 
-  pub critical_leaf : (s : BTree A) → size s ≡ 1 → is_critical m s ≡ false
-  critical_leaf (Leaf a) e = refl
-  critical_leaf (Node b l r) e = let p = size_pos l in absurd (omega arith)
+  -- a tree of at most m nodes has no critical root
+  pub critical_small : (s : BTree A) → 0 < m → size s ≤ m → is_critical m s ≡ false
+  critical_small (Leaf a) p h = refl
+  critical_small (Node b l r) p h =
+      let whole = rank_small m p (Node b l r) h in let left = rank_pos m p l in
+      let equal : nat_lt (rank m l) (rank m (Node b l r)) ≡ false = grind (arith, nat_tests) in rw equal refl
 
   pub critical_means : (s : BTree A) → (is_critical m s ≡ true → IsCritical m s) × (IsCritical m s → is_critical m s ≡ true)
   critical_means (Leaf a) = ((λ e. absurd (cc)), (λ f. absurd f))
   critical_means (Node b l r) = (when_critical m b l r, (λ p. critical_when m b l r p.0 p.1))
+
+-- more than m nodes are more than one
+pub inner_size : (m n : ℕ) → 0 < m → m < n → n ≡ 1 → ⊥
+inner_size m n p more e = absurd (omega arith)
 
 module _ {A : Type 0} (m : ℕ) (t : BTree A) (i : ℕ) where
   pub has_child : (n : ℕ) → i < size t → n ≡ size (sub_at t i) → (n ≡ 1 → ⊥) → i + 1 < size t

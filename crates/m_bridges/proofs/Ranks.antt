@@ -42,6 +42,13 @@ ceiling_one m k p c =
     let f = lt_of_mul-lt-mul_left m d in
     let q = ceiling_pos m 1 k c (omega arith) in omega arith
 
+-- the ceiling of a number that isn't over m is at most 1
+pub ceiling_small : (m n k : ℕ) → IsCeiling m n k → n ≤ m → 0 < m → k ≤ 1
+ceiling_small m n k c h p =
+    let l = c.least in
+    let d : m * k < m * 2 = omega arith in
+    let f = lt_of_mul-lt-mul_left m d in omega arith
+
 module _ {A : Type 0} (m : ℕ) (pos_m : 0 < m) where
   pub ranked : (t : BTree A) → IsCeiling m (size t) (rank m t)
   ranked t = is_ceiling m (size t) pos_m
@@ -60,3 +67,6 @@ module _ {A : Type 0} (m : ℕ) (pos_m : 0 < m) where
 
   pub rank_both : (b : A) (l r : BTree A) → rank m l + rank m r ≤ rank m (Node b l r) + 1
   rank_both b l r = ceilings_add m (size l) (rank m l) (size r) (rank m r) (size (Node b l r)) (rank m (Node b l r)) (ranked l) (ranked r) (ranked (Node b l r)) refl
+
+  pub rank_small : (t : BTree A) → size t ≤ m → rank m t ≤ 1
+  rank_small t h = ceiling_small m (size t) (rank m t) (ranked t) h pos_m

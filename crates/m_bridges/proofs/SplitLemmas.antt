@@ -3,10 +3,9 @@ use Rattle.std.proofs.Common.{◌≡◌, ℕ, ◌+◌, ◌*◌, ◌<◌, ◌≤�
 use Rattle.op_laws.specs.Trees.{BTree, Leaf, Node, size}
 use Rattle.m_bridges.specs.Parts.{rank, is_critical}
 use Rattle.m_bridges.specs.Bridges.{bridges_below, bridges, AreFew}
-use Rattle.m_bridges.proofs.Ranks.{IsCeiling, ranked}
+use Rattle.m_bridges.proofs.Ranks.{IsCeiling, ranked, rank_small}
 use Rattle.m_bridges.proofs.Cuts.{true_or_false, below_at}
 use Rattle.m_bridges.proofs.Counts.{bridges_few}
-use Rattle.std.proofs.Math.Nat.{lt_of_mul-lt-mul_left}
 
 -- no more bridges than nodes
 pub as_few_as_nodes : {A : Type 0} (m : ℕ) (t : BTree A) (at : ℕ) → length (bridges m at t) ≤ size t
@@ -22,12 +21,6 @@ as_few_as_nodes m (Node b l r) at =
           let g = length-append (bridges_below m (1 + at) l) (bridges_below m (1 + at + size l) r) in omega arith
     ]
 
-rank_one : (m n k : ℕ) → IsCeiling m n k → n ≤ m → 0 < m → 2 ≤ k → ⊥
-rank_one m n k c h p q =
-    let l = c.least in
-    let d : m * k < m * 2 = omega arith in
-    let f = lt_of_mul-lt-mul_left m d in absurd (omega arith)
-
 rank_more : (m n k : ℕ) → IsCeiling m n k → m < n → k ≡ 1 → ⊥
 rank_more m n k c h e = let f = c.enough in let g = ap (λ j. m * j) e in absurd (omega arith)
 
@@ -35,5 +28,5 @@ pub are_few : {A : Type 0} (m : ℕ) (t : BTree A) → 0 < m → AreFew (size t)
 are_few m t p =
     elim (bridges_few m p t) as (λ _. AreFew (size t) m (length (bridges m 0 t))) [
       | inl f ↦ (λ h. f.1, λ h. absurd (rank_more m (size t) (rank m t) (ranked m p t) h f.0))
-      | inr f ↦ (λ h. absurd (rank_one m (size t) (rank m t) (ranked m p t) h p f.0), λ h. f.1)
+      | inr f ↦ (λ h. let small = rank_small m p t h in let two = f.0 in absurd (omega arith), λ h. f.1)
     ]

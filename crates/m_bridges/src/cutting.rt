@@ -34,7 +34,8 @@ fn both_fewer(n: u32, l: u32, m: u32) -> bool
 }
 
 /// Whether the node at place `i` is m-critical: an inner node of whose subtree the size, divided by
-/// m and rounded up, is greater than that of both children.
+/// m and rounded up, is greater than that of both children. Over a subtree of at most m nodes nothing
+/// is divided.
 pub fn critical(tree: &Tree, m: u32, i: u32) -> bool
     requires some { 1 ≤ m }
     requires within { i < size tree.now.tree }
@@ -42,7 +43,7 @@ pub fn critical(tree: &Tree, m: u32, i: u32) -> bool
     ensures meaning { IsTrue result ↔ IsCritical m (sub_at tree.now.tree i) }
 {
     let n = tree.size(i);
-    if n == 1 {
+    if n <= m {
         return false;
     }
     both_fewer(n, tree.size(i + 1), m)
