@@ -35,7 +35,7 @@ block-join p from mid to first second =
     sym (staged-append p.stages (slice_range (places p) from mid) (slice_range (places p) mid to))
     ∙ ap (staged p.stages) (range-join (places p) from mid to first second)
 
-turned-staged : (b : Bool) (ss : List Stage) (es : List (List ℤ)) → staged ss (turned b es) ≡ turned b (staged ss es)
+pub turned-staged : (b : Bool) (ss : List Stage) (es : List (List ℤ)) → staged ss (turned b es) ≡ turned b (staged ss es)
 turned-staged true ss es = staged-reverse ss es
 turned-staged false ss es = refl
 

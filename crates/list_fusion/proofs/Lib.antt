@@ -3,3 +3,4 @@ pub mod StageLemmas
 pub mod BlockLemmas
 pub mod ScanLemmas
 pub mod NumberLemmas
+pub mod ColumnLemmas

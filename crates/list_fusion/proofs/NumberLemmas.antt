@@ -1,11 +1,10 @@
 -- Elements of one number each.
-use Rattle.std.proofs.Common.{◌≡◌, ℕ, ◌+◌, ◌-◌, ◌<◌, ◌≤◌, ℤ, List, [], ◌∷◌, ◌++◌, length, get_or, map, take, drop, slice_range, reverse, ap, refl, arith, pos, sym, ◌∙◌, false, subst, suc, zero}
+use Rattle.std.proofs.Common.{◌≡◌, ℕ, ◌+◌, ◌-◌, ◌<◌, ◌≤◌, ℤ, List, [], ◌∷◌, length, get_or, map, take, drop, slice_range, reverse, ap, refl, arith, pos, sym, ◌∙◌, subst, suc}
 use Rattle.std.specs.Prelude.{slice_index_or}
 use Rattle.std.specs.List.{All}
 use Rattle.std.proofs.Math.Seq.{drop-cons}
 use Rattle.std.proofs.lemmas.List.{take-map, drop-map, same_lists, length-drop, length-reverse, length-take-le, get_or-take, get_or-drop, get_or-reverse}
 use Rattle.std.proofs.lemmas.List.Elements.{All-head, All-tail, All-take, All-drop}
-use Rattle.op_laws.specs.declared.width.Width.{Width}
 use Rattle.op_laws.specs.declared.width.Width.TheVariants.{W64}
 use Rattle.op_laws.specs.Admits.{Admits}
 use Rattle.op_laws.specs.Elements.{Elements, singles}

@@ -4,6 +4,7 @@ use Rattle.std.specs.List.{All, fold}
 use Rattle.std.specs.Option.{option_to_list}
 use Rattle.std.proofs.lemmas.List.{length-map, map-append, append-nil, append_assoc, length-append, reverse-append}
 use Rattle.std.proofs.lemmas.List.Elements.{All-cons, All-nil, All-append, All-head, All-tail}
+use Rattle.std.proofs.lemmas.List.Sums.{fold-append}
 use Rattle.op_laws.specs.declared.TheConstants.{MAX_ELEMENTS}
 use Rattle.op_laws.specs.declared.width.Width.{Width}
 use Rattle.op_laws.specs.Admits.{Admits}
@@ -11,7 +12,7 @@ use Rattle.op_laws.specs.Laws.{LiftLaws, CombineLaws}
 use Rattle.op_laws.specs.Folds.{step, fold_of, beside, with_next, with_front}
 use Rattle.op_laws.proofs.FoldLemmas.{fold_of-push, fold_of-front, fits-fold_of}
 use Rattle.list_fusion.specs.Scans.{prefixes, suffixes, result_of, scan_after, scanr_before}
-use Rattle.list_fusion.specs.Held.{held_after, held_in_front, told_of, held_through, scanned}
+use Rattle.list_fusion.specs.Held.{held_after, held_in_front, told_of, held_after_all, held_through, scanned}
 
 module _ {X : Type 0} where
   -- the prefixes of a list with one element more
@@ -168,3 +169,51 @@ module _ {C : Type 0} {takes : List Width → Type 0} {gives : List Width → Li
       → scanned lifted combined finished false before es ≡ scan_after finished lifted combined before es
   scan-first before nb es few fit all =
       ap (λ h. scanned lifted combined finished false h es) (sym (beside-none combined before)) ∙ scan-on before nb [] es (omega arith) fit (All-nil (Admits ty)) all
+
+  -- from behind, the elements in front come one after another
+  regroup : (r : List ℤ) (rs es : List (List ℤ)) → reverse rs ++ r ∷ es ≡ reverse (r ∷ rs) ++ es
+  regroup r rs es = sym (append_assoc (reverse rs) (r ∷ []) es) ∙ ap (λ xs. xs ++ es) (sym (reverse-append (r ∷ []) rs))
+
+  pub held-back : (behind : Option C) (nb : ℕ) (es rs : List (List ℤ)) → nb + (length es + length rs) ≤ MAX_ELEMENTS → IfSome behind (λ c. fits c nb) → All (Admits ty) es → All (Admits ty) rs
+      → held_through lifted combined true (beside combined (fold_of lifted combined es) behind) rs ≡ beside combined (fold_of lifted combined (reverse rs ++ es)) behind
+  held-back behind nb es [] few fit all more = refl
+  held-back behind nb es (r ∷ rs) few fit all more =
+      let one = All-head (Admits ty) r rs more in
+      ap (λ h. held_through lifted combined true h rs) (sym (beside-front behind nb r es (omega arith) fit all one))
+      ∙ held-back behind nb (r ∷ es) rs (omega arith) fit (All-cons (Admits ty) r es one all) (All-tail (Admits ty) r rs more)
+      ∙ ap (λ xs. beside combined (fold_of lifted combined xs) behind) (regroup r rs es)
+
+  pub scan-back : (behind : Option C) (nb : ℕ) (es rs : List (List ℤ)) → nb + (length es + length rs) ≤ MAX_ELEMENTS → IfSome behind (λ c. fits c nb) → All (Admits ty) es → All (Admits ty) rs
+      → reverse (scanr_before finished lifted combined behind es) ++ scanned lifted combined finished true (beside combined (fold_of lifted combined es) behind) rs
+      ≡ reverse (scanr_before finished lifted combined behind (reverse rs ++ es))
+  scan-back behind nb es [] few fit all more = append-nil (reverse (scanr_before finished lifted combined behind es))
+  scan-back behind nb es (r ∷ rs) few fit all more =
+      let one = All-head (Admits ty) r rs more in
+      let front = reverse (scanr_before finished lifted combined behind es) in
+      let next = with_front combined (lifted r) (beside combined (fold_of lifted combined es) behind) in
+      let pushed : beside combined (fold_of lifted combined (r ∷ es)) behind ≡ Some next = beside-front behind nb r es (omega arith) fit all one in
+      let rest = scanned lifted combined finished true (Some next) rs in
+      let told : front ++ finished next ∷ [] ≡ reverse (scanr_before finished lifted combined behind (r ∷ es)) =
+      ap (λ h. front ++ option_to_list (told_of finished true h)) (sym pushed) ∙ scanr-front behind nb (Some r) es (omega arith) fit all one in
+      sym (append_assoc front (finished next ∷ []) rest)
+      ∙ ap (λ xs. xs ++ rest) told
+      ∙ ap (λ h. reverse (scanr_before finished lifted combined behind (r ∷ es)) ++ scanned lifted combined finished true h rs) (sym pushed)
+      ∙ scan-back behind nb (r ∷ es) rs (omega arith) fit (All-cons (Admits ty) r es one all) (All-tail (Admits ty) r rs more)
+      ∙ ap (λ xs. reverse (scanr_before finished lifted combined behind xs)) (regroup r rs es)
+
+-- a fold goes on from what is held, with no law
+pub fold_of-on : {C : Type 0} (lifted : List ℤ → C) (combined : C → C → C) (xs ys : List (List ℤ)) → fold_of lifted combined (xs ++ ys) ≡ held_after_all lifted combined (fold_of lifted combined xs) ys
+fold_of-on lifted combined [] ys = refl
+fold_of-on lifted combined (x ∷ xs) ys = ap Some (fold-append (step lifted combined) (lifted x) xs ys)
+
+-- what is held fits more places
+pub some-grows : {C : Type 0} {takes : List Width → Type 0} {gives : List Width → List Width} {lifted : List ℤ → C} {finished : C → List ℤ} {fits : C → ℕ → Type 0}
+    → LiftLaws takes gives lifted finished fits → (o : Option C) (m n : ℕ) → m ≤ n → IfSome o (λ c. fits c m) → IfSome o (λ c. fits c n)
+some-grows lifts None m n le h = tt
+some-grows lifts (Some c) m n le h = lifts.grows c m n le h
+
+pub All-reverse : {X : Type 0} (P : X → Type 0) (xs : List X) → All P xs → All P (reverse xs)
+All-reverse P [] all = all
+All-reverse P (x ∷ xs) all =
+    subst (All P) (sym (reverse-append (x ∷ []) xs))
+    (All-append P (reverse xs) (x ∷ []) (All-reverse P xs (All-tail P x xs all)) (All-cons P x [] (All-head P x xs all) (All-nil P)))

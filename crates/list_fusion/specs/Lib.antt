@@ -3,6 +3,7 @@ pub mod Stages
 pub mod Pipes
 pub mod Cuts
 pub mod Scans
+pub mod Columnar
 pub mod Held
 pub mod Through
 pub mod Kept

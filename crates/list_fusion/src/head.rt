@@ -1,12 +1,16 @@
 //! Where the elements of a pipe come from.
 
-ghost use Rattle.std.specs.Prelude.{◌≡◌, ◌+◌, ◌<◌, ◌≤◌, true, [], ◌∷◌, ◌++◌, length, take, slice_index_or, IfSome, OnSome};
-ghost use Rattle.std.specs.List.{All};
+ghost use Rattle.std.specs.Prelude.{◌≡◌, ℕ, ◌+◌, ◌-◌, ◌<◌, ◌≤◌, pos, true, [], ◌∷◌, ◌++◌, length, take, slice_index_or, slice_range, IfSome, OnSome};
+ghost use Rattle.std.specs.List.{All, list_all};
 ghost use Rattle.op_laws.specs.declared.width.Width.TheVariants.{W64};
 ghost use Rattle.op_laws.specs.Admits.{Admits};
 ghost use Rattle.op_laws.specs.Elements.{singles};
+ghost use Rattle.scalar_expr.specs.Columns.{is_w64};
+ghost use Rattle.list_fusion.specs.Columnar.{Holds, place_of};
+ghost use Rattle.list_fusion.specs.Pipes.{turned};
 ghost use Rattle.list_fusion.specs.Heads.{head_of, CanBeHead};
 
+use crate::columns::{copy, copy_back, count_down, count_up};
 use op_laws::{ElemType, List, Tup, Width};
 
 /// Where the elements of a pipe come from.
@@ -60,6 +64,62 @@ impl<'a> Head<'a> {
         }
     }
 
+    // Each element has as many numbers as the type has widths.
+    pub(crate) fn lengths(&self)
+        requires { CanBeHead self.now }
+        ensures { (i : ℕ) → i < length (head_of self.now).items → length (slice_index_or (head_of self.now).items i []) ≡ length (head_of self.now).ty }
+    {
+        match self {
+            Head::One(x) => x.admitted(),
+            Head::Two(x, y) => {
+                x.admitted();
+                y.admitted();
+            }
+            Head::Iota(_) => (),
+        }
+    }
+
+    // Puts the elements from place `from` up to before `to` into columns, the last one first where
+    // `reversed`.
+    pub(crate) fn load(&self, from: u32, to: u32, reversed: bool, columns: &mut [[i64; 256]; 4])
+        requires can { CanBeHead self.now }
+        requires narrow { list_all is_w64 (head_of self.now).ty ≡ true }
+        requires ordered { from ≤ to }
+        requires within { to ≤ length (head_of self.now).items }
+        requires few { to - from ≤ 256 }
+        ensures { Holds columns.new (length (head_of self.now).ty) (to - from) (turned reversed (slice_range (head_of self.now).items from to)) }
+    {
+        self.lengths();
+        for k in 0..self.ty().len() {
+            self.load_component(k, from, to, reversed, &mut columns[k]);
+        }
+    }
+
+    // Puts component `k` of these elements into a column.
+    fn load_component(&self, k: usize, from: u32, to: u32, reversed: bool, column: &mut [i64; 256])
+        requires can { CanBeHead self.now }
+        requires narrow { list_all is_w64 (head_of self.now).ty ≡ true }
+        requires component { k < length (head_of self.now).ty }
+        requires ordered { from ≤ to }
+        requires within { to ≤ length (head_of self.now).items }
+        requires few { to - from ≤ 256 }
+        ensures { (j : ℕ) → j < to - from → slice_index_or column.new j (pos 0) ≡ slice_index_or (slice_index_or (head_of self.now).items (place_of reversed from to j) []) k (pos 0) }
+    {
+        match self {
+            Head::One(x) => load_numbers(x.numbers_64(k), from, to, reversed, column),
+            Head::Two(x, y) => {
+                let width = x.ty().len();
+                x.admitted();
+                if k < width {
+                    load_numbers(x.numbers_64(k), from, to, reversed, column);
+                } else {
+                    load_numbers(y.numbers_64(k - width), from, to, reversed, column);
+                }
+            }
+            Head::Iota(_) => load_count(from, to, reversed, column),
+        }
+    }
+
     // Its list, where there is one alone.
     #[inline(always)]
     pub(crate) fn list(&self) -> Option<&'a List>
@@ -105,4 +165,44 @@ pub(crate) fn is_single(ty: ElemType) -> bool
     ensures { result ≡ true → ty ≡ W64 ∷ [] }
 {
     ty.len() == 1 && ty.at(0) == Width::W64
+}
+
+// Puts the numbers from place `from` up to before `to` into a column.
+fn load_numbers(numbers: &[i64], from: u32, to: u32, reversed: bool, column: &mut [i64; 256])
+    requires ordered { from ≤ to }
+    requires within { to ≤ length numbers.now }
+    requires few { to - from ≤ 256 }
+    ensures { (j : ℕ) → j < to - from → slice_index_or column.new j (pos 0) ≡ slice_index_or numbers.now (place_of reversed from to j) (pos 0) }
+{
+    let numbers = &numbers[from as usize..to as usize];
+    if reversed {
+        copy_back(column, numbers);
+    } else {
+        copy(column, numbers);
+    }
+}
+
+// Puts the numbers from `from` up to before `to` into a column.
+fn load_count(from: u32, to: u32, reversed: bool, column: &mut [i64; 256])
+    requires ordered { from ≤ to }
+    requires few { to - from ≤ 256 }
+    ensures { (j : ℕ) → j < to - from → slice_index_or column.new j (pos 0) ≡ pos (place_of reversed from to j) }
+{
+    if reversed {
+        count_down(column, to, (to - from) as usize);
+    } else {
+        count_up(column, from, (to - from) as usize);
+    }
+}
+
+// Whether each number is one of w64.
+pub(crate) fn all_w64(ty: ElemType) -> bool
+    ensures { result ≡ true → list_all is_w64 ty ≡ true }
+{
+    for i in 0..ty.len() {
+        if ty.at(i) != Width::W64 {
+            return false;
+        }
+    }
+    true
 }

@@ -2,6 +2,7 @@
 #![tactic(auto)]
 
 mod block;
+mod columns;
 mod combining;
 mod cuts;
 mod head;

@@ -1,17 +1,20 @@
 //! Pipes: elements, and the stages that they go through.
 
-ghost use Rattle.std.specs.Prelude.{◌≡◌, ◌<◌, [], false, not, length, map, reverse, slice_index_or, OnOk, OnErr, IfSome};
-ghost use Rattle.std.specs.List.{filter};
+ghost use Rattle.std.specs.Prelude.{◌≡◌, ℕ, ◌-◌, ◌<◌, ◌≤◌, ℤ, [], false, true, not, length, map, reverse, slice_index_or, slice_range, OnOk, OnErr, IfSome};
+ghost use Rattle.std.specs.Prelude.{List as Seq};
+ghost use Rattle.std.specs.List.{filter, list_all, AllByRecursion};
 ghost use Rattle.op_laws.specs.Admits.{Admits};
 ghost use Rattle.scalar_expr.specs.Values.{values_of};
 ghost use Rattle.list_fusion.specs.declared.stage.Stage.TheVariants.{Map, Keep};
 ghost use Rattle.list_fusion.specs.Heads.{head_of, CanBeHead};
-ghost use Rattle.list_fusion.specs.Stages.{is_kept};
-ghost use Rattle.list_fusion.specs.Pipes.{elements, type_of, places, with_stage};
+ghost use Rattle.list_fusion.specs.Stages.{is_kept, staged};
+ghost use Rattle.list_fusion.specs.Pipes.{elements, type_of, turned, places, block_of, with_stage};
+ghost use Rattle.scalar_expr.specs.Columns.{is_w64};
+ghost use Rattle.list_fusion.specs.Columnar.{Holds, GoesByColumns, IsColumnar};
 ghost use Rattle.list_fusion.specs.Kept.{IsPlain, AreNumbers};
 ghost use Rattle.list_fusion.specs.Through.{through};
 
-use crate::head::{Head, numbers_of};
+use crate::head::{Head, all_w64, is_single, numbers_of};
 use crate::stage::Stage;
 use op_laws::{ElemType, List, Tup};
 use scalar_expr::Typed;
@@ -134,6 +137,81 @@ impl<'a> Pipe<'a> {
             return None;
         }
         numbers_of(self.list()?)
+    }
+
+    // Whether its blocks go by columns of 64-bit numbers, to one number an element.
+    pub(crate) fn is_columnar(&self) -> bool
+        ensures { result ≡ true → IsColumnar self.now }
+    {
+        all_w64(self.head.ty()) && is_single(self.ty) && self.stages_go_by_columns()
+    }
+
+    fn stages_go_by_columns(&self) -> bool
+        ensures { result ≡ true → AllByRecursion GoesByColumns self.now.stages }
+    {
+        for stage in &self.stages {
+            if !stage.goes_by_columns() {
+                return false;
+            }
+        }
+        true
+    }
+
+    // Puts the elements of a block of at most 256 places into a column, the last one first where
+    // `back`. The answer is how many they are.
+    pub(crate) fn part(
+        &self,
+        from: u32,
+        to: u32,
+        back: bool,
+        columns: &mut [[i64; 256]; 4],
+        stack: &mut [[i64; 256]; 8],
+    ) -> usize
+        requires columnar { IsColumnar self.now }
+        requires ordered { from ≤ to }
+        requires within { to ≤ length self.now.head.items }
+        requires few { to - from ≤ 256 }
+        ensures holds { Holds columns.new 1 result (turned back (block_of self.now from to)) }
+        ensures fewer { result ≤ to - from }
+    {
+        self.load(from, to, back, columns);
+        self.pass_columns(columns, (to - from) as usize, stack)
+    }
+
+    // Puts the head's elements at these places, counted in the pipe's direction, into columns.
+    fn load(&self, from: u32, to: u32, back: bool, columns: &mut [[i64; 256]; 4])
+        requires narrow { list_all is_w64 self.now.head.ty ≡ true }
+        requires ordered { from ≤ to }
+        requires within { to ≤ length self.now.head.items }
+        requires few { to - from ≤ 256 }
+        ensures { Holds columns.new (length self.now.head.ty) (to - from) (turned back (slice_range (places self.now) from to)) }
+    {
+        if self.reversed {
+            self.head
+                .load(self.len - to, self.len - from, !back, columns);
+        } else {
+            self.head.load(from, to, back, columns);
+        }
+    }
+
+    // What the stages make of elements in columns, and how many they are then.
+    fn pass_columns(
+        &self,
+        columns: &mut [[i64; 256]; 4],
+        count: usize,
+        stack: &mut [[i64; 256]; 8],
+    ) -> usize
+        requires stages { AllByRecursion GoesByColumns self.now.stages }
+        requires few { count ≤ 256 }
+        ensures holds { (es : Seq (Seq ℤ)) → Holds columns.old (length self.now.head.ty) count es
+            → Holds columns.new (length (type_of self.now)) result (staged self.now.stages es) }
+        ensures fewer { result ≤ count }
+    {
+        let mut left = count;
+        for stage in &self.stages {
+            left = stage.apply_columns(columns, left, stack);
+        }
+        left
     }
 
     // Whether it is turned round.

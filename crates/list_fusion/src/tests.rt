@@ -29,6 +29,13 @@ fn odd(alloc: Global) -> Result<Scalar, AllocError>
     Ok(Scalar::And(part(alloc)?, literal(alloc, 1)?))
 }
 
+// (* #0 #1)
+fn product(alloc: Global) -> Result<Scalar, AllocError>
+    ensures { IfOk result (λ s. nodes (expr_of s) ≤ 8) }
+{
+    Ok(Scalar::Mul(part(alloc)?, Box::new(alloc, Scalar::Part(1))?))
+}
+
 fn part(alloc: Global) -> Result<Box<Scalar>, AllocError>
     ensures { IfOk result (λ s. nodes (expr_of s.value) ≡ 1) }
 {
@@ -192,5 +199,75 @@ fn a_list_alone_is_cut_from_either_end(rt: HostRuntime) -> Result<(), Fail> {
     pipe.rev();
     check_block(&rt, alloc, &pipe, 0, 2, &[5, 4])?;
     check_block(&rt, alloc, &pipe, 2, 5, &[3, 2, 1])?;
+    Ok(())
+}
+
+// A block is the blocks of its places, which go element by element.
+fn check_long(
+    rt: &impl Abort,
+    alloc: Global,
+    pipe: &Pipe,
+    from: u32,
+    to: u32,
+) -> Result<(), AllocError> {
+    assert!(rt; from <= to);
+    assert!(rt; to <= pipe.head_len());
+    assert!(rt; Last.accepts(pipe.ty()));
+    let mut numbers = Vec::new(alloc);
+    for i in from..to {
+        let place = build_block(alloc, pipe, i, i + 1)?;
+        assert!(rt; place.len() <= 1);
+        if place.len() == 1 {
+            numbers.push(place.at(0).at(0))?;
+        }
+    }
+    assert!(rt; numbers.len() > 64);
+    check_block(rt, alloc, pipe, from, to, &numbers)
+}
+
+#[test]
+fn long_blocks_are_what_their_places_give(rt: HostRuntime) -> Result<(), Fail> {
+    let alloc = rt.alloc();
+    let mut numbers = Vec::new(alloc);
+    for i in 0..700 {
+        numbers.push(i64::from(i) * 7 - 1000)?;
+    }
+    let list = List::of_w64(numbers);
+    let mut pipe = Pipe::of(alloc, Head::One(&list));
+    check_long(&rt, alloc, &pipe, 3, 700)?;
+    keep(&rt, alloc, &mut pipe, odd(alloc)?)?;
+    map(&rt, alloc, &mut pipe, square(alloc)?)?;
+    check_long(&rt, alloc, &pipe, 0, 700)?;
+    check_long(&rt, alloc, &pipe, 5, 301)?;
+    pipe.rev();
+    check_long(&rt, alloc, &pipe, 5, 301)?;
+    let mut pairs = side_by_side(&rt, alloc, &list, &list);
+    keep(&rt, alloc, &mut pairs, odd(alloc)?)?;
+    map(&rt, alloc, &mut pairs, product(alloc)?)?;
+    check_long(&rt, alloc, &pairs, 1, 698)?;
+    let mut counted = Pipe::of(alloc, Head::Iota(600));
+    map(&rt, alloc, &mut counted, square(alloc)?)?;
+    check_long(&rt, alloc, &counted, 0, 600)?;
+    counted.rev();
+    check_long(&rt, alloc, &counted, 0, 600)?;
+    Ok(())
+}
+
+fn keep(rt: &impl Abort, alloc: Global, pipe: &mut Pipe, scalar: Scalar) -> Result<(), Fail>
+    requires { nodes (expr_of scalar.entry) ≤ 8 }
+{
+    let f = typed(alloc, &Func::One(scalar), pipe.ty())?;
+    assert_eq!(rt; f.takes(), pipe.ty());
+    assert_eq!(rt; f.gives().len(), 1);
+    pipe.keep(f)?;
+    Ok(())
+}
+
+fn map(rt: &impl Abort, alloc: Global, pipe: &mut Pipe, scalar: Scalar) -> Result<(), Fail>
+    requires { nodes (expr_of scalar.entry) ≤ 8 }
+{
+    let f = typed(alloc, &Func::One(scalar), pipe.ty())?;
+    assert_eq!(rt; f.takes(), pipe.ty());
+    pipe.map(f)?;
     Ok(())
 }

@@ -1,0 +1,8 @@
+use Rattle.std.proofs.Common.{◌≡◌, ℕ, ◌-◌, ◌<◌, length, get_or, pos}
+use Rattle.list_fusion.proofs.columns.count_down.Given as goal
+
+abbrev pub invariant-loop-i : goal.invariant-loop-i
+invariant-loop-i l = record {
+  long : length l.column ≡ 256;
+  done : (j : ℕ) → j < l.i → get_or l.column j (pos 0) ≡ pos (l.end - 1 - j);
+}
