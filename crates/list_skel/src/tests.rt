@@ -78,7 +78,7 @@ where
             let cut = Cut { block, workers };
             assert_eq!(rt;
                 reduce(rt, alloc, pipe, op, cut, &OpenGate)?,
-                result,
+                value,
                 "{cut:?}"
             );
         }
