@@ -345,7 +345,14 @@ fn a_plan_tells_what_is_built(rt: HostRuntime) -> Result<(), Fail> {
     }
     assert_eq!(rt; count, 6);
     let end = run_sure(alloc, "plan s", Some("print r\n"), None)?;
-    assert_end(&rt, &end, 3, "", "script: s: line 1, column 7: unknown name\n", "a fault");
+    assert_end(
+        &rt,
+        &end,
+        3,
+        "",
+        "script: s: line 1, column 7: unknown name\n",
+        "a fault",
+    );
     let end = run_sure(alloc, "plan s", None, Some(FIVE))?;
     assert_end(&rt, &end, 5, "", "read: s: failed\n", "an absent script");
     Ok(())
