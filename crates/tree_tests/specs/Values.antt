@@ -1,0 +1,14 @@
+-- The values at the roots of bridges.
+use Rattle.std.specs.Prelude.{◌≡◌, ℕ, ℤ, List, map}
+use Rattle.op_laws.specs.Trees.{BTree, sub_at}
+use Rattle.op_laws.specs.TreeFolds.{Upward, Downward, fold_tree}
+use Rattle.m_bridges.specs.declared.bridge.Bridge.{Bridge}
+use Rattle.bridge_contract.specs.DownsOf.{down_at}
+
+-- the value of the subtree at each bridge's root
+abbrev pub AreFolds : {V G : Type 0} → Upward (List ℤ) V G → BTree (List ℤ) → List Bridge → List V → Type 0
+AreFolds k t bs vs = vs ≡ map (λ b. fold_tree k (sub_at t b.root)) bs
+
+-- the value that comes down to each bridge's root, with c at the tree's
+abbrev pub ComeDown : {V D : Type 0} → Downward (List ℤ) V D → V → BTree (List ℤ) → List Bridge → List V → Type 0
+ComeDown k c t bs vs = vs ≡ map (λ b. down_at k c t b.root) bs
