@@ -1,5 +1,5 @@
 //! What no clause of `bridge_contract` says: that its downward calls answer where there is memory,
-//! and what the operators bring down trees, worked out by hand from the operators' tables.
+//! and what the operators bring down small trees, worked out from their tables apart from the code.
 
 ghost use Rattle.std.specs.Prelude.{◌≡◌, ◌≤◌, ◌<◌, length};
 ghost use Rattle.m_bridges.specs.Bridges.{bridges};
