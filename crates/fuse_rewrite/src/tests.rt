@@ -33,14 +33,14 @@ fn planned(alloc: Global, script: &str) -> Result<String, Fail> {
 
 #[test]
 fn a_script_has_one_step_for_each_name_that_is_kept(rt: HostRuntime) -> Result<(), Fail> {
-    let mut count = 0;
+    let mut count = 0u64;
     for row in ROWS.lines() {
         let (script, plan) = row.split_once(" => ").ok_or("a row")?;
         let lines = plan.replace(rt.alloc(), " / ", "\n")?;
         let wanted = format!(in rt.alloc(); "{lines}\ntrue true")?;
         let text = planned(rt.alloc(), script)?;
         assert_eq!(rt; text.as_str(), wanted.as_str(), "in {script}");
-        count += 1;
+        count = count.saturating_add(1);
     }
     assert_eq!(rt; count, 9);
     Ok(())
