@@ -232,6 +232,7 @@ fn long_blocks_are_what_their_places_give(rt: HostRuntime) -> Result<(), Fail> {
     for i in 0..700 {
         numbers.push(i64::from(i) * 7 - 1000)?;
     }
+    assert!(rt; numbers.len() < 1000);
     let list = List::of_w64(numbers);
     let mut pipe = Pipe::of(alloc, Head::One(&list));
     check_long(&rt, alloc, &pipe, 3, 700)?;
@@ -254,7 +255,7 @@ fn long_blocks_are_what_their_places_give(rt: HostRuntime) -> Result<(), Fail> {
 }
 
 fn keep(rt: &impl Abort, alloc: Global, pipe: &mut Pipe, scalar: Scalar) -> Result<(), Fail>
-    requires { nodes (expr_of scalar.entry) ≤ 8 }
+    requires { nodes (expr_of scalar) ≤ 8 }
 {
     let f = typed(alloc, &Func::One(scalar), pipe.ty())?;
     assert_eq!(rt; f.takes(), pipe.ty());
@@ -264,7 +265,7 @@ fn keep(rt: &impl Abort, alloc: Global, pipe: &mut Pipe, scalar: Scalar) -> Resu
 }
 
 fn map(rt: &impl Abort, alloc: Global, pipe: &mut Pipe, scalar: Scalar) -> Result<(), Fail>
-    requires { nodes (expr_of scalar.entry) ≤ 8 }
+    requires { nodes (expr_of scalar) ≤ 8 }
 {
     let f = typed(alloc, &Func::One(scalar), pipe.ty())?;
     assert_eq!(rt; f.takes(), pipe.ty());
