@@ -1,6 +1,7 @@
 //! Functions that are typed and compiled.
 
-ghost use Rattle.std.specs.Prelude.{◌≡◌, ◌<◌, ◌≤◌, length, map};
+ghost use Rattle.std.specs.Prelude.{◌≡◌, ◌<◌, ◌≤◌, ℤ, length, map};
+ghost use Rattle.std.specs.Prelude.{List as Seq};
 ghost use Rattle.op_laws.specs.Admits.{Admits};
 ghost use Rattle.scalar_expr.specs.Columns.{room_of, is_narrow};
 ghost use Rattle.scalar_expr.specs.Values.{values_of};
@@ -53,6 +54,15 @@ impl Typed {
         ensures { result ≡ self.now.gives }
     {
         self.gives
+    }
+
+    /// What it gives on an element that it takes is one of the type that it gives. It does nothing:
+    /// its clause is for proofs that go over all elements.
+    #[inline(always)]
+    pub fn admitted(&self)
+        ensures { (e : Seq ℤ) → Admits self.now.takes e → Admits self.now.gives (values_of self.now.scalars e) }
+    {
+        let _steps = &self.steps;
     }
 
     /// The value on an element. It goes over the steps once, on a stack of 64 numbers, or of 8 where
