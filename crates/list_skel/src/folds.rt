@@ -129,14 +129,14 @@ impl<'a, 'p, M: Semi<C = C>, C: Copy + Drop> Folds<'a, 'p, M, C> {
     }
 }
 
-/// Asks the operator once more whether it takes the pipe's elements. It answers true: a task keeps no
-/// more of that fact than that it holds, and by this call it is known as the operator says it.
+/// Asks the operator once more whether it takes the pipe's elements: a task keeps no more of that
+/// fact than that it holds, and by this call it is known as the operator says it.
 #[inline(always)]
-pub fn confirm<M: Semi>(op: &M, pipe: &Pipe) -> bool
+pub fn confirm<M: Semi>(op: &M, pipe: &Pipe)
     requires { ∥ M.takes op.now (type_of pipe.now) ∥₁ }
     ensures { M.takes op.now (type_of pipe.now) }
 {
-    op.accepts(pipe.ty())
+    let _takes = op.accepts(pipe.ty());
 }
 
 /// What is held, of weight `m`, and what follows it, of weight `n`.

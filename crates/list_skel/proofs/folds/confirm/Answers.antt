@@ -4,4 +4,4 @@ use mathlib.Core.Bool.{Bool-set}
 use Rattle.list_skel.proofs.folds.confirm.Goals as goal
 
 pub returns : goal.returns
-returns g c = let holds = rw c.ty.ensures at c.accepts.ensures in holds.0 (∥∥₁_elim c.requires (Bool-set _ _) holds.1)
+returns g c = let holds = rw c.ty.ensures at c.accepts-takes.ensures in holds.0 (∥∥₁_elim c.requires (Bool-set _ _) holds.1)
