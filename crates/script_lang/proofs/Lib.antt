@@ -10,4 +10,5 @@ pub mod TypeLemmas
 pub mod FoldLemmas
 pub mod LeftLemmas
 pub mod SoundLemmas
+pub mod SmallLemmas
 pub mod TextLemmas

@@ -276,16 +276,16 @@ at_typed lines ts l e =
 -- ---- scripts
 
 -- the line after these
-last_is : {A : Type 0} → (xs : List A) (y l : A) → slice_get (xs ++ y ∷ []) (length xs) ≡ Some l → y ≡ l
+pub last_is : {A : Type 0} → (xs : List A) (y l : A) → slice_get (xs ++ y ∷ []) (length xs) ≡ Some l → y ≡ l
 last_is [] y l e = cc
 last_is (x ∷ xs) y l e = last_is xs y l e
 
-before_is : {A : Type 0} → (xs : List A) (y l : A) (i : ℕ) → i < length xs → slice_get (xs ++ y ∷ []) i ≡ Some l → slice_get xs i ≡ Some l
+pub before_is : {A : Type 0} → (xs : List A) (y l : A) (i : ℕ) → i < length xs → slice_get (xs ++ y ∷ []) i ≡ Some l → slice_get xs i ≡ Some l
 before_is [] y l i lt e = absurd (omega arith)
 before_is (x ∷ xs) y l zero lt e = e
 before_is (x ∷ xs) y l (suc i) lt e = before_is xs y l i (omega arith) e
 
-within : {A : Type 0} → (xs : List A) (l : A) (i : ℕ) → slice_get xs i ≡ Some l → i < length xs
+pub within : {A : Type 0} → (xs : List A) (l : A) (i : ℕ) → slice_get xs i ≡ Some l → i < length xs
 within [] l i e = absurd (cc)
 within (x ∷ xs) l zero e = omega arith
 within (x ∷ xs) l (suc i) e = omega (arith, within xs l i e)
@@ -296,7 +296,7 @@ takes_same xs y i le = grind (arith, common_steps)
 takes_all : {A : Type 0} → (xs : List A) (y : A) → take (length xs) (xs ++ y ∷ []) ≡ xs
 takes_all xs y = grind (arith, common_steps)
 
-two_places : (i n : ℕ) → i < n + 1 → (i < n) ⊎ (i ≡ n)
+pub two_places : (i n : ℕ) → i < n + 1 → (i < n) ⊎ (i ≡ n)
 two_places i n lt = elim (cases_lt i n) [ inl less ↦ inl less | inr le ↦ inr (omega (arith, le, lt)) ]
 
 pub one_more : (lines : List Statement) (y : Statement) → IsTypedScript lines → IsTypedAfter lines y → IsTypedScript (lines ++ y ∷ [])

@@ -1,10 +1,11 @@
 -- What the lines of a typed script have in common, in the form in which an evaluation uses it: a line refers to
 -- earlier lines that bind what its skeleton takes, and has the kind, the type and the shape of what the skeleton makes of it.
-use Rattle.std.specs.Prelude.{◌≡◌, ℕ, Bool, true, false, List, [], ◌∷◌, length, take, Option, Some, None, option_and_then, Ok, slice_get}
+use Rattle.std.specs.Prelude.{◌≡◌, ℕ, ◌≤◌, Bool, true, false, List, [], ◌∷◌, length, take, Option, Some, None, option_and_then, Ok, slice_get}
 use Rattle.std.specs.List.{list_any}
+use Rattle.op_laws.specs.declared.TheConstants.{MAX_ELEMENTS}
 use Rattle.op_laws.specs.declared.width.Width.{Width}
 use Rattle.op_laws.specs.declared.width.Width.TheVariants.{W64}
-use Rattle.scalar_expr.specs.Expr.{Expr}
+use Rattle.scalar_expr.specs.Expr.{Expr, nodes_in}
 use Rattle.scalar_expr.specs.Typing.{typed}
 use Rattle.script_lang.specs.declared.kind.Kind.{Kind}
 use Rattle.script_lang.specs.declared.op.Op.{Op}
@@ -83,3 +84,20 @@ IsTypedAfter before (prints n) = ((x : Binding) × (binding_at before n ≡ Some
 -- each line is typed after those before it
 abbrev pub IsTypedScript : List Statement → Type 0
 IsTypedScript lines = (i : ℕ) → (l : Statement) → slice_get lines i ≡ Some l → IsTypedAfter (take i lines) l
+
+-- ---- functions that can be typed and evaluated
+
+-- functions have few nodes
+abbrev pub AreSmall : List (List Expr) → Type 0
+AreSmall [] = Unit {0}
+AreSmall (f ∷ fs) = (nodes_in f ≤ MAX_ELEMENTS) × AreSmall fs
+
+-- a line's functions have
+abbrev pub IsSmallLine : Statement → Type 0
+IsSmallLine (binds_input b like) = Unit {0}
+IsSmallLine (binds_let b s) = AreSmall s.functions
+IsSmallLine (prints n) = Unit {0}
+
+-- the functions of all let lines have
+abbrev pub AreSmallLines : List Statement → Type 0
+AreSmallLines lines = (n : ℕ) (b : Binding) (s : Skeleton) → slice_get lines n ≡ Some (binds_let b s) → AreSmall s.functions

@@ -3,7 +3,9 @@ ghost use Rattle.std.specs.Prelude.{◌≡◌, ◌<◌, ◌≤◌, ◌^◌, ◌-
 ghost use Rattle.script_words.specs.Reading.{end_of};
 ghost use Rattle.script_words.specs.Read.{Gives};
 ghost use Rattle.script_lang.specs.Script.{line_at, of_line, lines_at, GivesIn};
-ghost use Rattle.script_lang.specs.Views.{statement_of};
+ghost use Rattle.script_lang.specs.Steps.{line_of};
+ghost use Rattle.script_lang.specs.Sound.{IsSmallLine, AreSmallLines};
+ghost use Rattle.script_lang.specs.Views.{form_of, IsNamed, statement_of};
 
 use crate::elementwise::{child_line, mapln_line, mapped_line, plain_line, zip_line};
 use crate::fault::ScriptFault;
@@ -25,14 +27,14 @@ fn end_of(words: &[Word<'_>]) -> u32
     }
 }
 
-// What the words of a line mean after these lines.
-#[tactic(auto, unfolding(crate::specs::Script::line_at, crate::specs::Steps::line_of))]
-fn line_at(alloc: Global, lines: &[Line], words: &[Word<'_>]) -> Result<Line, LineFault>
+// What a line of this form means after these lines.
+#[tactic(auto, unfolding(crate::specs::Steps::line_of))]
+fn line_of(alloc: Global, lines: &[Line], form: Form<'_>) -> Result<Line, LineFault>
     requires few { length lines.now < 2 ^ 31 - 2 }
-    requires words { length words.now < 2 ^ 32 }
-    ensures { Gives statement_of result (line_at (map statement_of lines.now) words.now) }
+    requires named { IsNamed form }
+    ensures { Gives statement_of result (line_of (map statement_of lines.now) (form_of form.entry)) }
 {
-    match form_at(alloc, end_of(words), words)? {
+    match form {
         Form::Input { name, kind, like } => match like {
             None => input_line(alloc, lines, &name, kind),
             Some(like) => like_line(alloc, lines, &name, kind, &like),
@@ -59,9 +61,22 @@ fn line_at(alloc: Global, lines: &[Line], words: &[Word<'_>]) -> Result<Line, Li
     }
 }
 
+// What the words of a line mean after these lines.
+#[tactic(auto, unfolding(crate::specs::Script::line_at), using(crate::proofs::SmallLemmas::small_result))]
+fn line_at(alloc: Global, lines: &[Line], words: &[Word<'_>]) -> Result<Line, LineFault>
+    requires few { length lines.now < 2 ^ 31 - 2 }
+    requires words { length words.now < 2 ^ 32 }
+    ensures gives { Gives statement_of result (line_at (map statement_of lines.now) words.now) }
+    ensures small { IfOk result (λ l. IsSmallLine (statement_of l)) }
+{
+    let form = form_at(alloc, end_of(words), words)?;
+    line_of(alloc, lines, form)
+}
+
 fn source_line(alloc: Global, lines: &[Line], source: &SourceLine<'_>) -> Result<Line, ScriptFault>
     requires few { length lines.now < 2 ^ 31 - 2 }
-    ensures { GivesIn statement_of result (of_line source.now.number (line_at (map statement_of lines.now) source.now.tokens)) }
+    ensures gives { GivesIn statement_of result (of_line source.now.number (line_at (map statement_of lines.now) source.now.tokens)) }
+    ensures small { IfOk result (λ l. IsSmallLine (statement_of l)) }
 {
     match line_at(alloc, lines, source.words()) {
         Ok(line) => Ok(line),
@@ -79,6 +94,7 @@ pub(crate) fn lines_at(alloc: Global, sources: &[SourceLine<'_>]) -> Result<Vec<
     requires few { length sources.now < 2 ^ 30 }
     ensures gives { GivesIn (λ v. map statement_of v.items) result (lines_at [] sources.now) }
     ensures few { IfOk result (λ v. length v.items ≤ length sources.now) }
+    ensures small { IfOk result (λ v. AreSmallLines (map statement_of v.items)) }
 {
     let mut lines = Vec::new(alloc);
     for source in sources {
