@@ -5,3 +5,7 @@ pub mod ChainLemmas
 pub mod StepLemmas
 pub mod LoopLemmas
 pub mod PipeLemmas
+pub mod MeaningRows
+pub mod UseLemmas
+pub mod PlaceLemmas
+pub mod LinkLemmas

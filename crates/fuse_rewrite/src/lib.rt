@@ -1,6 +1,7 @@
 //! Which names of a script are kept, and the text of its plan.
 #![tactic(auto)]
 
+mod chains;
 mod demand;
 mod function_text;
 mod fusing;
@@ -13,6 +14,7 @@ mod step;
 mod tests;
 mod words;
 
+pub use chains::each_step_is_linked;
 pub use plan::{Plan, plan_of};
 pub use plan_text::write_plan;
 pub use step::Step;

@@ -84,13 +84,12 @@ pub(crate) fn makes_pipe(skel: &Skel) -> bool
         | Skel::Rev { .. }
         | Skel::Zip { .. }
         | Skel::Iota { .. } => true,
+        // A scan's element holds what stands before it, so no filter can change places with the scan.
+        Skel::Scan { .. } | Skel::Scanr { .. } | Skel::ScanBoth { .. } => false,
         Skel::Mapln { .. }
         | Skel::Plain { .. }
         | Skel::Reduce { .. }
         | Skel::ReduceBoth { .. }
-        | Skel::Scan { .. }
-        | Skel::Scanr { .. }
-        | Skel::ScanBoth { .. }
         | Skel::Rows { .. }
         | Skel::Cols { .. }
         | Skel::Transpose { .. }

@@ -1,0 +1,15 @@
+use Rattle.std.proofs.Common.{◌∙◌}
+use Rattle.std.proofs.lemmas.Result.{IfOk-weaker}
+use Rattle.list_fusion.specs.Pipes.{type_of, elements}
+use Rattle.script_run.proofs.ReductionLemmas.{scanned_back-is}
+use Rattle.script_run.proofs.reductions.scanned_back_with.Goals as goal
+
+pub returns-clause-ty : goal.returns-clause-ty
+returns-clause-ty g c = IfOk-weaker c.scanr.result _ _ (λ x e. rw e c.requires.operator.typed) c.scanr.ensures.ty
+
+pub returns-clause-items : goal.returns-clause-items
+returns-clause-items g c =
+    let op = c.args.op.now in
+    IfOk-weaker c.scanr.result _ _
+    (λ x e. e ∙ scanned_back-is (g.M.Lifted.takes op) (g.M.Lifted.gives op) (g.M.Lifted.finished op) (g.M.Lifted.lifted op) (g.M.Semi.combined op) c.args.name (type_of c.args.pipe.now) c.requires.operator (elements c.args.pipe.now) c.requires.admitted)
+    c.scanr.ensures.items
