@@ -11,6 +11,7 @@ use std::alloc::AllocError;
 use std::process::ExitCode;
 use std::{env, io};
 use stream::Stream;
+use worker_split::OpenGate;
 
 // The words after the program's name.
 fn words(rt: &HostRuntime) -> io::Result<Vec<String>> {
@@ -40,5 +41,14 @@ fn main(rt: HostRuntime) -> ExitCode {
     let mut shelf = FileShelf::new(&rt);
     let mut out = Stream::new(rt.stdout());
     let mut err = Stream::new(rt.stderr());
-    ExitCode::from(sketo(rt.alloc(), &words, &mut shelf, &mut out, &mut err))
+    let status = sketo(
+        &rt,
+        rt.alloc(),
+        &words,
+        &mut shelf,
+        &mut out,
+        &mut err,
+        &OpenGate,
+    );
+    ExitCode::from(status)
 }

@@ -1,24 +1,23 @@
 -- What a script and data in their forms have in common.
-use Rattle.std.proofs.Common.{◌≡◌, ◌≢◌, ℕ, ◌≤◌, true, inl, inr, List, length, map, take, Option, Some, None, IfSome, Result, Ok, Err, IfOk, IfErr, ap, refl, sym, ◌∙◌, arith, ℤ}
-use Rattle.std.specs.Prelude.{nat_lt, ⊤}
+use Rattle.std.proofs.Common.{◌≡◌, ◌≢◌, ℕ, ◌≤◌, true, inl, inr, List, length, take, Option, Some, None, IfSome, Result, Ok, Err, IfOk, ap, refl, sym, ◌∙◌, arith}
+use Rattle.std.specs.Prelude.{nat_lt}
 use Rattle.std.proofs.lemmas.Bool.{cases_lt}
 use Rattle.std.proofs.lemmas.Bool.Decides.{nat_tests}
 use Rattle.std.proofs.lemmas.List.{length-take-le, take_all}
-use Rattle.data_text.specs.declared.value.Named.{Named}
-use Rattle.data_text.specs.declared.data_fault.DataFault.{DataFault}
-use Rattle.data_text.specs.declared.data_fault.DataFault.TheVariants as fault
-use Rattle.data_text.specs.Data.{Section, sections_of}
 use Rattle.script_lang.specs.declared.fault.ScriptFault.{ScriptFault}
 use Rattle.script_lang.specs.declared.fault.ScriptFault.TheVariants as script_fault
 use Rattle.script_lang.specs.Syntax.{Statement}
 use Rattle.script_lang.specs.Script.{script, FailsIn}
+use Rattle.data_text.specs.declared.value.Named.{Named}
+use Rattle.data_text.specs.declared.data_fault.DataFault.{DataFault}
+use Rattle.data_text.specs.declared.data_fault.DataFault.TheVariants as data_fault
+use Rattle.data_text.specs.Data.{Section, sections_of}
+use Rattle.fuse_rewrite.specs.Meaning.{script_meaning}
+use Rattle.script_run.specs.Fit.{fit_of, over_lists}
+use Rattle.sketo_run.specs.Answer.{if_fit, fitting, faulty, IsAnswer, IsRefused}
 use Rattle.sketo_run.specs.declared.stop.Stop.{Stop}
-use Rattle.sketo_run.specs.declared.stop.Stop.TheVariants as stop
 use Rattle.sketo_run.specs.Stops.{stop_of_script, stop_of_data}
-use Rattle.sketo_run.specs.Fit.{input_of}
-use Rattle.sketo_run.specs.Reductions.{Reduction, reduction_of, IsReduceScript, IsBuilt, IsNotBuilt}
-use Rattle.sketo_run.specs.Answer.{or_unfit, numbers_in, IsReduced, IsAnswer}
-use Rattle.sketo_run.specs.Causes.{IsReadStop, IsRefusalOf, IsOfScript, IsFormStop, IsScriptOf, IsEarly, IsUnfit, IsCauseOf}
+use Rattle.sketo_run.specs.Causes.{IsRefusalOf, IsCauseOf}
 
 -- of two contents that may be told
 pub both : (o p : Option (List ℕ)) (A B : List ℕ → Type 0) (P : List ℕ → List ℕ → Type 0) → IfSome o A → IfSome p B → ((s d : List ℕ) → A s → B d → P s d) → IfSome o (λ s. IfSome p (λ d. P s d))
@@ -62,31 +61,37 @@ refuses s bytes (script_fault.At line column what) e h = sym (script_front s byt
 pub refused_script : (o : Option (List ℕ)) (bytes text : List ℕ) (f : ScriptFault) → bytes ≡ text → IfSome o (λ s. text ≡ take 65537 s) → FailsIn f (script bytes) → IfSome o (IsRefusalOf (stop_of_script f))
 refused_script o bytes text f same told h = one o (λ s. text ≡ take 65537 s) (IsRefusalOf (stop_of_script f)) told (λ s t. refuses s bytes f (same ∙ t) h)
 
--- what a script made of the sections that were read
-pub made : (result : Result Named Stop) (o p : Option (List ℕ)) (r : Reduction) (sections : List Section) → IfSome o (λ s. IsReduceScript s r)
-    → IfSome p (λ d. sections_of d ≡ Ok sections) → IfOk result (λ a. (numbers : List ℤ) × (input_of r sections ≡ Ok numbers) × IsReduced r numbers a)
-    → IfOk result (λ a. IfSome o (λ s. IfSome p (λ d. IsAnswer s d a)))
-made (Err e) o p r sections script read h = tt
-made (Ok a) o p r sections script read h =
-    both o p (λ s. IsReduceScript s r) (λ d. sections_of d ≡ Ok sections) (λ s d. IsAnswer s d a) script read
-    (λ s d form e. record { reduction = r; numbers = h.0; script_form = form; data_form = ap (numbers_in r) e ∙ ap or_unfit h.1; reduced = h.2 })
+-- the values that a script has of the sections that were read
+pub made : (r : Result (List Named) Stop) (o p : Option (List ℕ)) (lines : List Statement) (sections : List Section) → IfSome o (λ s. script s ≡ Ok lines) → over_lists lines ≡ true
+    → IfSome p (λ d. sections_of d ≡ Ok sections) → IfOk r (λ x. fit_of lines sections ≡ Ok tt) → IfOk r (λ a. a ≡ script_meaning sections lines)
+    → IfOk r (λ a. IfSome o (λ s. IfSome p (λ d. IsAnswer s d a)))
+made (Err e) o p lines sections accepted lists read fits values = tt
+made (Ok a) o p lines sections accepted lists read fits values =
+    both o p (λ s. script s ≡ Ok lines) (λ d. sections_of d ≡ Ok sections) (λ s d. IsAnswer s d a) accepted read
+    (λ s d same e. record { lines = lines; sections = sections; accepted = same; lists = lists; fits = ap (fitting lines) e ∙ ap (λ f. if_fit f sections) fits; values = values })
 
--- the data is at fault
-at_fault : (s d : List ℕ) (r : Reduction) (f : DataFault) → IsReduceScript s r → (f ≢ fault.Read → f ≢ fault.Memory → sections_of d ≡ Err f) → IsCauseOf (stop_of_data f) s d
-at_fault s d r fault.Read script h = tt
-at_fault s d r fault.Memory script h = tt
-at_fault s d r (fault.BadWord at) script h = (r, record { script_form = script; data_form = ap (numbers_in r) (h (λ same. cc) (λ same. cc)) })
-at_fault s d r (fault.BadNumber at) script h = (r, record { script_form = script; data_form = ap (numbers_in r) (h (λ same. cc) (λ same. cc)) })
-at_fault s d r (fault.LongWord at) script h = (r, record { script_form = script; data_form = ap (numbers_in r) (h (λ same. cc) (λ same. cc)) })
-at_fault s d r (fault.LongGap at) script h = (r, record { script_form = script; data_form = ap (numbers_in r) (h (λ same. cc) (λ same. cc)) })
-at_fault s d r (fault.BadKind at) script h = (r, record { script_form = script; data_form = ap (numbers_in r) (h (λ same. cc) (λ same. cc)) })
-at_fault s d r (fault.TooMany at) script h = (r, record { script_form = script; data_form = ap (numbers_in r) (h (λ same. cc) (λ same. cc)) })
-at_fault s d r (fault.Short at) script h = (r, record { script_form = script; data_form = ap (numbers_in r) (h (λ same. cc) (λ same. cc)) })
-at_fault s d r (fault.Shape at) script h = (r, record { script_form = script; data_form = ap (numbers_in r) (h (λ same. cc) (λ same. cc)) })
-at_fault s d r (fault.Duplicate at) script h = (r, record { script_form = script; data_form = ap (numbers_in r) (h (λ same. cc) (λ same. cc)) })
-at_fault s d r (fault.TooManySections at) script h = (r, record { script_form = script; data_form = ap (numbers_in r) (h (λ same. cc) (λ same. cc)) })
+-- the first fault of data
+abbrev FirstFault : DataFault → List ℕ → Type 0
+FirstFault fault bytes = fault ≢ data_fault.Read → fault ≢ data_fault.Memory → sections_of bytes ≡ Err fault
 
-pub refused : (o p : Option (List ℕ)) (r : Reduction) (f : DataFault) → IfSome o (λ s. IsReduceScript s r) → IfSome p (λ d. f ≢ fault.Read → f ≢ fault.Memory → sections_of d ≡ Err f)
-    → IfSome o (λ s. IfSome p (λ d. IsCauseOf (stop_of_data f) s d))
-refused o p r f script read =
-    both o p (λ s. IsReduceScript s r) (λ d. f ≢ fault.Read → f ≢ fault.Memory → sections_of d ≡ Err f) (IsCauseOf (stop_of_data f)) script read (λ s d form e. at_fault s d r f form e)
+refused_by : (fault : DataFault) (lines : List Statement) (s d : List ℕ) → script s ≡ Ok lines → over_lists lines ≡ true → sections_of d ≡ Err fault → IsRefused s d lines (faulty fault)
+refused_by fault lines s d accepted lists e = record { accepted = accepted; lists = lists; unfits = ap (fitting lines) e }
+
+caused_by : (fault : DataFault) (lines : List Statement) (s d : List ℕ) → script s ≡ Ok lines → over_lists lines ≡ true → FirstFault fault d → IsCauseOf (stop_of_data fault) s d
+caused_by data_fault.Read lines s d a l f = tt
+caused_by data_fault.Memory lines s d a l f = tt
+caused_by (data_fault.BadWord at) lines s d a l f = (lines, refused_by (data_fault.BadWord at) lines s d a l (f (λ e. cc) (λ e. cc)))
+caused_by (data_fault.BadNumber at) lines s d a l f = (lines, refused_by (data_fault.BadNumber at) lines s d a l (f (λ e. cc) (λ e. cc)))
+caused_by (data_fault.LongWord at) lines s d a l f = (lines, refused_by (data_fault.LongWord at) lines s d a l (f (λ e. cc) (λ e. cc)))
+caused_by (data_fault.LongGap at) lines s d a l f = (lines, refused_by (data_fault.LongGap at) lines s d a l (f (λ e. cc) (λ e. cc)))
+caused_by (data_fault.BadKind at) lines s d a l f = (lines, refused_by (data_fault.BadKind at) lines s d a l (f (λ e. cc) (λ e. cc)))
+caused_by (data_fault.TooMany at) lines s d a l f = (lines, refused_by (data_fault.TooMany at) lines s d a l (f (λ e. cc) (λ e. cc)))
+caused_by (data_fault.Short at) lines s d a l f = (lines, refused_by (data_fault.Short at) lines s d a l (f (λ e. cc) (λ e. cc)))
+caused_by (data_fault.Shape at) lines s d a l f = (lines, refused_by (data_fault.Shape at) lines s d a l (f (λ e. cc) (λ e. cc)))
+caused_by (data_fault.Duplicate at) lines s d a l f = (lines, refused_by (data_fault.Duplicate at) lines s d a l (f (λ e. cc) (λ e. cc)))
+caused_by (data_fault.TooManySections at) lines s d a l f = (lines, refused_by (data_fault.TooManySections at) lines s d a l (f (λ e. cc) (λ e. cc)))
+
+-- why data is refused
+pub refused_data : (o p : Option (List ℕ)) (lines : List Statement) (fault : DataFault) → IfSome o (λ s. script s ≡ Ok lines) → over_lists lines ≡ true → IfSome p (FirstFault fault)
+    → IfSome o (λ s. IfSome p (λ d. IsCauseOf (stop_of_data fault) s d))
+refused_data o p lines fault accepted lists first = both o p (λ s. script s ≡ Ok lines) (FirstFault fault) (IsCauseOf (stop_of_data fault)) accepted first (λ s d a f. caused_by fault lines s d a lists f)

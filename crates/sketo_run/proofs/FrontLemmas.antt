@@ -1,9 +1,9 @@
 -- The front of what is read, piece by piece.
 use Rattle.std.proofs.Common.{◌≡◌, ℕ, ◌≤◌, List, [], ◌∷◌, ◌++◌, length, take, Option, Some, None, IfSome, Result, Ok, Err, ap, refl, sym, ◌∙◌, append_assoc, arith}
-use Rattle.std.specs.Prelude.{is_err, OnOk, false}
+use Rattle.std.specs.Prelude.{is_err, OnOk, false, IsSome}
 use Rattle.std.proofs.lemmas.List.{append-nil, take_all}
 use Rattle.std.proofs.Math.Seq.{take-append_seam}
-use Rattle.outside.specs.Outside.{TakesPiece}
+use Rattle.outside.specs.Outside.{TakesPiece, OthersKept}
 
 -- where the content is told, it is what was read and what is left
 abbrev pub Parts : Option (List ℕ) → Option (List ℕ) → List ℕ → Type 0
@@ -37,3 +37,9 @@ ended (Some all) (Some (b ∷ bytes)) (Some rest) piece had p t z l = absurd (om
 pub at_ok : {T E : Type 0} (r : Result T E) (P : Type 0) → is_err r ≡ false → OnOk r P → P
 at_ok (Ok x) P e h = h
 at_ok (Err x) P e h = cc
+
+-- one read more of a name that is told leaves the counts of the others
+pub others_on : (started : Option (List ℕ)) (content before : List ℕ → Option (List ℕ)) (name : List ℕ) (old mid new : List ℕ → ℕ) → IsSome started → IfSome started (λ n. n ≡ name) → content ≡ before
+    → OthersKept before name old mid → IfSome started (λ n. OthersKept content n mid new) → OthersKept before name old new
+others_on None content before name old mid new told of_name same h k = cc
+others_on (Some n) content before name old mid new told of_name same h k = λ other is differs. (rw (of_name, same) at k) other is differs ∙ h other is differs

@@ -1,8 +1,8 @@
 pub mod FrontLemmas
-pub mod FitLemmas
 pub mod OutletLemmas
 pub mod AnswerLemmas
 pub mod EndLemmas
+pub mod ReadLemmas
 pub mod NumberLemmas
 pub mod GivenLemmas
 pub mod RangeLemmas

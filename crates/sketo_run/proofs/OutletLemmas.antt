@@ -1,9 +1,9 @@
 -- What went out through an outlet that held nothing at first.
-use Rattle.std.proofs.Common.{◌≡◌, ℕ, ◌≤◌, List, [], ◌++◌, Option, Some, None, Bool, true, false, ap, refl, sym, ◌∙◌, append_assoc, ◌⊎◌, inl, inr, arith}
-use Rattle.std.specs.Prelude.{Result, Ok, Err, OnOk, OnErr}
-use Rattle.outside.specs.Outside.{Rose, Appends, AppendsFront}
+use Rattle.std.proofs.Common.{ℕ, List, [], ◌++◌, Option, Some, None, ap, refl, sym, ◌∙◌, append_assoc}
+use Rattle.std.specs.Prelude.{Result, Ok, Err, OnErr}
+use Rattle.outside.specs.Outside.{AppendsFront}
 use Rattle.data_text.specs.Pending.{Pending, nothing_pending}
-use Rattle.data_text.specs.Given.{IsGiven, IsCutOff}
+use Rattle.data_text.specs.Given.{IsGiven}
 use Rattle.data_text.specs.Hands.{Hands}
 
 handed_in_part : (x held : List ℕ) (w v u : Option (List ℕ)) → Hands w v x held → AppendsFront v u held → AppendsFront w u x

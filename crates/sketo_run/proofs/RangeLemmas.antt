@@ -8,7 +8,7 @@ use Rattle.sketo_run.specs.declared.command.Verb.{Verb}
 use Rattle.sketo_run.specs.declared.command.Verb.TheVariants.{Run, Check, Plan, Bridges, Trial}
 use Rattle.sketo_run.specs.declared.command.Setting.{Setting}
 use Rattle.sketo_run.specs.declared.command.Setting.TheVariants.{M, Block, Workers}
-use Rattle.sketo_run.specs.declared.command.Settings.{Settings}
+use Rattle.script_run.specs.declared.settings.Settings.{Settings}
 use Rattle.sketo_run.specs.Commands.{Command, trial, option_of, greatest_of, default_of, IsInRange, AreInRange, HasRange}
 use Rattle.sketo_run.specs.Words.{Item, operand, option, value_in, value_by, value_of, seed_in, settings_given, command_with}
 

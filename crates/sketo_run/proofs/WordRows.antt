@@ -2,7 +2,7 @@
 use Rattle.std.proofs.Common.{◌≡◌, ℕ, List, [], refl}
 use Rattle.std.specs.Prelude.{Result, Ok, Err, codes, ◌==◌}
 use Rattle.std.specs.List.{slice_split}
-use Rattle.sketo_run.specs.declared.command.Settings.{Settings}
+use Rattle.script_run.specs.declared.settings.Settings.{Settings}
 use Rattle.sketo_run.specs.declared.refusal.WordFault.TheVariants.{UnknownCommand, UnknownOption, GivenTwice, NoValue, BadNumber, BadName, InputTwice, OneTooMany}
 use Rattle.sketo_run.specs.Commands.{Command, run, check, plan, bridges, trial}
 use Rattle.sketo_run.specs.Refusals.{Refusal, no_command, at, too_few, refusal_line}

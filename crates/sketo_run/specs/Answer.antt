@@ -1,48 +1,39 @@
 -- What a script makes of data.
-use Rattle.std.specs.Prelude.{◌≡◌, ℕ, List, [], ◌∷◌, Some, Result, Ok, Err, ℤ}
-use Rattle.op_laws.specs.declared.width.Width.{Width}
-use Rattle.op_laws.specs.declared.width.Width.TheVariants.{W64}
-use Rattle.op_laws.specs.Elements.{singles}
-use Rattle.op_catalog.specs.Catalog.{typed_of, reduction_of}
-use Rattle.data_text.specs.declared.value.Value.TheVariants.{Single}
+use Rattle.std.specs.Prelude.{◌≡◌, ℕ, List, Result, Ok, Err, true}
 use Rattle.data_text.specs.declared.value.Named.{Named}
 use Rattle.data_text.specs.declared.data_fault.DataFault.{DataFault}
 use Rattle.data_text.specs.Data.{Section, sections_of}
-use Rattle.sketo_run.specs.Reductions.{Reduction, IsReduceScript}
-use Rattle.sketo_run.specs.declared.inputs.FitFault.{FitFault}
-use Rattle.sketo_run.specs.Fit.{input_of}
+use Rattle.script_lang.specs.Syntax.{Statement}
+use Rattle.script_lang.specs.Script.{script}
+use Rattle.fuse_rewrite.specs.Meaning.{script_meaning}
+use Rattle.script_run.specs.declared.fitting.FitFault.{FitFault}
+use Rattle.script_run.specs.Fit.{Fit, fit_of, over_lists}
 
 -- why data is refused
 pub data DataRefusal : Type 0 where
   faulty : DataFault → DataRefusal
   unfit : FitFault → DataRefusal
 
-abbrev pub or_unfit : Result (List ℤ) FitFault → Result (List ℤ) DataRefusal
-or_unfit (Ok numbers) = Ok numbers
-or_unfit (Err fault) = Err (unfit fault)
+abbrev pub if_fit : Fit → List Section → Result (List Section) DataRefusal
+if_fit (Ok x) sections = Ok sections
+if_fit (Err fault) sections = Err (unfit fault)
 
--- the numbers that a script reads from data, or why the data is refused
-abbrev pub numbers_in : Reduction → Result (List Section) DataFault → Result (List ℤ) DataRefusal
-numbers_in r (Err fault) = Err (faulty fault)
-numbers_in r (Ok sections) = or_unfit (input_of r sections)
+-- the sections of data that fits a script, or why the data is refused
+abbrev pub fitting : List Statement → Result (List Section) DataFault → Result (List Section) DataRefusal
+fitting lines (Err fault) = Err (faulty fault)
+fitting lines (Ok sections) = if_fit (fit_of lines sections) sections
 
--- The value that a script makes of the numbers, under the script's second name.
-pub record IsReduced (r : Reduction) (numbers : List ℤ) (answer : Named) : Type 0 where
-  pub type : List Width
-  pub element : List ℤ
-  pub typed : typed_of r.op (W64 ∷ []) ≡ Ok type
-  pub reduced : reduction_of r.op (W64 ∷ []) (singles numbers) ≡ Some element
-  pub named : answer ≡ record { name = r.result; value = Single type element }
+-- The script is accepted and is over lists, the data fits it, and these are the printed names with their values.
+pub record IsAnswer (program input : List ℕ) (answer : List Named) : Type 0 where
+  pub lines : List Statement
+  pub sections : List Section
+  pub accepted : script program ≡ Ok lines
+  pub lists : over_lists lines ≡ true
+  pub fits : fitting lines (sections_of input) ≡ Ok sections
+  pub values : answer ≡ script_meaning sections lines
 
--- The script reduces the list that the data has under its first name, and this is the answer.
-pub record IsAnswer (script input : List ℕ) (answer : Named) : Type 0 where
-  pub reduction : Reduction
-  pub numbers : List ℤ
-  pub script_form : IsReduceScript script reduction
-  pub data_form : numbers_in reduction (sections_of input) ≡ Ok numbers
-  pub reduced : IsReduced reduction numbers answer
-
--- The script reduces a list, and the data is refused.
-pub record IsRefused (script input : List ℕ) (reduction : Reduction) (refusal : DataRefusal) : Type 0 where
-  pub script_form : IsReduceScript script reduction
-  pub data_form : numbers_in reduction (sections_of input) ≡ Err refusal
+-- The script is accepted, has these lines, and is over lists; the data is refused.
+pub record IsRefused (program input : List ℕ) (lines : List Statement) (refusal : DataRefusal) : Type 0 where
+  pub accepted : script program ≡ Ok lines
+  pub lists : over_lists lines ≡ true
+  pub unfits : fitting lines (sections_of input) ≡ Err refusal

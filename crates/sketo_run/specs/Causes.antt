@@ -1,11 +1,13 @@
 -- Why a run of data has no answer, by how it stops. No public clause cites this file.
-use Rattle.std.specs.Prelude.{◌≡◌, ℕ, List, Err, ⊤}
+use Rattle.std.specs.Prelude.{◌≡◌, ℕ, List, Err, map, ⊤}
 use Rattle.data_text.specs.Data.{Section}
+use Rattle.script_lang.specs.Syntax.{Statement}
+use Rattle.script_lang.specs.Views.{statement_of}
 use Rattle.script_lang.specs.Script.{script}
+use Rattle.script_run.specs.Fit.{fit_of}
 use Rattle.sketo_run.specs.declared.stop.Stop.{Stop}
 use Rattle.sketo_run.specs.declared.stop.Stop.TheVariants as stop
-use Rattle.sketo_run.specs.Fit.{input_of}
-use Rattle.sketo_run.specs.Reductions.{Reduction, IsReduceScript, IsBuilt, IsNotBuilt}
+use Rattle.sketo_run.specs.Built.{IsBuilt, IsNotBuilt}
 use Rattle.sketo_run.specs.Answer.{faulty, unfit, IsRefused}
 
 -- a script's bytes stop a run only where they can't be read, or for want of memory
@@ -29,12 +31,6 @@ IsScriptOf (stop.BadScript fault) bytes = script bytes ≡ Err fault
 IsScriptOf stop.NotBuilt bytes = IsNotBuilt bytes
 IsScriptOf stop bytes = IsBuilt bytes
 
--- the form of a script stops a run only where it isn't built, or for want of memory
-abbrev pub IsFormStop : Stop → Type 0
-IsFormStop stop.NotBuilt = ⊤
-IsFormStop stop.NoMemory = ⊤
-IsFormStop stop = ⊥
-
 -- a script stops a check
 abbrev pub IsOfScript : Stop → Type 0
 IsOfScript stop.ScriptUnread = ⊤
@@ -50,14 +46,14 @@ IsEarly (stop.BadScript fault) = ⊤
 IsEarly stop.NotBuilt = ⊤
 IsEarly stop = ⊥
 
--- sections that were read stop a run only where they don't fit, or for want of memory
-abbrev pub IsUnfit : Reduction → List Section → Stop → Type 0
-IsUnfit r sections stop.NoMemory = ⊤
-IsUnfit r sections (stop.Unfit fault name) = (input_of r sections ≡ Err fault) × (name ≡ r.input)
-IsUnfit r sections stop = ⊥
+-- sections that were read stop a run of a script of these lines only where they don't fit, or for want of memory
+abbrev pub IsUnfit : List Statement → List Section → Stop → Type 0
+IsUnfit lines sections stop.NoMemory = ⊤
+IsUnfit lines sections (stop.Unfit fault s) = (fit_of lines sections ≡ Err fault) × (map statement_of s ≡ lines)
+IsUnfit lines sections stop = ⊥
 
 -- data that is refused
 abbrev pub IsCauseOf : Stop → List ℕ → List ℕ → Type 0
-IsCauseOf (stop.BadData fault) script input = (r : Reduction) × IsRefused script input r (faulty fault)
-IsCauseOf (stop.Unfit fault name) script input = (r : Reduction) × IsRefused script input r (unfit fault) × (name ≡ r.input)
-IsCauseOf stop script input = ⊤
+IsCauseOf (stop.BadData fault) program input = (lines : List Statement) × IsRefused program input lines (faulty fault)
+IsCauseOf (stop.Unfit fault s) program input = IsRefused program input (map statement_of s) (unfit fault)
+IsCauseOf stop program input = ⊤

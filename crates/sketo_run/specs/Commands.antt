@@ -4,7 +4,7 @@ use Rattle.sketo_run.specs.declared.command.Verb.{Verb}
 use Rattle.sketo_run.specs.declared.command.Verb.TheVariants.{Run, Check, Plan, Bridges, Trial}
 use Rattle.sketo_run.specs.declared.command.Setting.{Setting}
 use Rattle.sketo_run.specs.declared.command.Setting.TheVariants.{M, Block, Workers}
-use Rattle.sketo_run.specs.declared.command.Settings.{Settings}
+use Rattle.script_run.specs.declared.settings.Settings.{Settings}
 
 -- the two files of a run
 pub record Files : Type 0 where

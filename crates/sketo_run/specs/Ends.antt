@@ -2,7 +2,6 @@
 use Rattle.std.specs.Prelude.{◌≡◌, ◌≢◌, ℕ, ◌⊎◌, List, Option, Ok, Err, IfSome, IsSomeAnd}
 use Rattle.outside.specs.Outside.{Rose, Appends, AppendsFront}
 use Rattle.data_text.specs.declared.value.Named.{Named}
-use Rattle.data_text.specs.Printed.{text_of}
 use Rattle.script_lang.specs.declared.fault.ScriptFault.{ScriptFault}
 use Rattle.script_lang.specs.Syntax.{Statement}
 use Rattle.script_lang.specs.Script.{script}
@@ -10,7 +9,8 @@ use Rattle.script_lang.specs.TypesText.{types_text}
 use Rattle.fuse_rewrite.specs.PlanText.{plan_text}
 use Rattle.sketo_run.specs.declared.telling.Told.{Told}
 use Rattle.sketo_run.specs.declared.telling.Told.TheVariants as told
-use Rattle.sketo_run.specs.Reductions.{Reduction, IsBuilt}
+use Rattle.sketo_run.specs.Built.{IsBuilt}
+use Rattle.sketo_run.specs.ValuesText.{values_text}
 use Rattle.sketo_run.specs.Commands.{Files}
 use Rattle.sketo_run.specs.Report.{IsReported, script_line, data_line}
 use Rattle.sketo_run.specs.Answer.{IsAnswer, IsRefused, DataRefusal}
@@ -31,6 +31,10 @@ IsRefusedStatus n = (n ≡ 3) ⊎ ((n ≡ 5) ⊎ (n ≡ 7))
 abbrev pub IsTellingStatus : ℕ → Type 0
 IsTellingStatus n = (n ≡ 0) ⊎ ((n ≡ 3) ⊎ ((n ≡ 5) ⊎ ((n ≡ 6) ⊎ (n ≡ 7))))
 
+-- of a run whose script has a form that isn't built: that is told, a read failed, or memory was refused
+abbrev pub IsUnbuiltStatus : ℕ → Type 0
+IsUnbuiltStatus n = (n ≡ 8) ⊎ ((n ≡ 5) ⊎ (n ≡ 7))
+
 -- of a run: those, and that the data is refused, or a form isn't built
 abbrev pub IsRunStatus : ℕ → Type 0
 IsRunStatus n = IsTellingStatus n ⊎ ((n ≡ 4) ⊎ (n ≡ 8))
@@ -41,11 +45,11 @@ IsStatus n = (n ≡ 2) ⊎ IsRunStatus n
 
 -- the text of the answer went out
 abbrev pub IsPrinted : Option (List ℕ) → Option (List ℕ) → List ℕ → List ℕ → Type 0
-IsPrinted before after script input = (answer : Named) × IsAnswer script input answer × Appends before after (text_of answer)
+IsPrinted before after script input = (answer : List Named) × IsAnswer script input answer × Appends before after (values_text answer)
 
 -- a front of the text of the answer went out
 abbrev pub IsPrintedInPart : Option (List ℕ) → Option (List ℕ) → List ℕ → List ℕ → Type 0
-IsPrintedInPart before after script input = (answer : Named) × IsAnswer script input answer × AppendsFront before after (text_of answer)
+IsPrintedInPart before after script input = (answer : List Named) × IsAnswer script input answer × AppendsFront before after (values_text answer)
 
 -- what is told of a script: the types of its names, or its plan
 abbrev pub told_text : Told → List Statement → List ℕ
@@ -68,10 +72,10 @@ IsScriptRefused file before after faults faults' bytes =
 -- the data is refused, and the line of this file tells why
 abbrev pub IsDataRefused : List ℕ → Option (List ℕ) → Option (List ℕ) → ℕ → ℕ → List ℕ → List ℕ → Type 0
 IsDataRefused file before after faults faults' script input =
-    (r : Reduction) × (refusal : DataRefusal) × IsRefused script input r refusal × IsReported (data_line file r refusal) before after faults faults'
+    (lines : List Statement) × (refusal : DataRefusal) × IsRefused script input lines refusal × IsReported (data_line file lines refusal) before after faults faults'
 
--- A file of the run couldn't be read: its count of faults rose. It is the data only after a script of the
--- form that is built.
+-- A file of the run couldn't be read: its count of faults rose. It is the data only after a script over
+-- lists.
 pub record IsUnread (content : List ℕ → Option (List ℕ)) (files : Files) (faults faults' : List ℕ → ℕ) (file : List ℕ) : Type 0 where
   pub named : (file ≡ files.script) ⊎ (file ≡ files.input)
   pub rose : Rose (faults file) (faults' file)
@@ -79,7 +83,7 @@ pub record IsUnread (content : List ℕ → Option (List ℕ)) (files : Files) (
 
 -- Both files are told and have an answer, and no count of faults rose: of the files and of output.
 pub record IsFaultless (content : List ℕ → Option (List ℕ)) (files : Files) (faults faults' : List ℕ → ℕ) (out out' : ℕ) : Type 0 where
-  pub has_answer : AreTold content files (λ script input. (answer : Named) × IsAnswer script input answer)
+  pub has_answer : AreTold content files (λ script input. (answer : List Named) × IsAnswer script input answer)
   pub script_read : Rose (faults files.script) (faults' files.script) → ⊥
   pub input_read : Rose (faults files.input) (faults' files.input) → ⊥
   pub written : Rose out out' → ⊥

@@ -4,11 +4,13 @@ pub mod Words
 pub mod Seen
 pub mod OperandTexts
 pub mod Given
-pub mod Reductions
-pub mod Fit
+pub mod Built
+pub mod Inputs
+pub mod ValuesText
 pub mod Answer
 pub mod Report
 pub mod Ends
+pub mod Reads
 pub mod Accounts
 pub mod Stops
 pub mod Causes

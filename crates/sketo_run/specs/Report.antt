@@ -2,13 +2,14 @@
 use Rattle.std.specs.Prelude.{ℕ, ◌⊎◌, List, [], ◌++◌, Option, codes, decimal}
 use Rattle.data_text.specs.declared.data_fault.DataFault.{DataFault}
 use Rattle.data_text.specs.declared.data_fault.DataFault.TheVariants.{BadWord, BadNumber, LongWord, LongGap, BadKind, TooMany, Short, Shape, Duplicate, TooManySections, Read, Memory}
-use Rattle.sketo_run.specs.Reductions.{Reduction}
+use Rattle.script_lang.specs.Syntax.{Statement}
 use Rattle.script_words.specs.declared.fault.ScriptWhat.{ScriptWhat}
 use Rattle.script_words.specs.declared.fault.ScriptWhat.TheVariants as what
 use Rattle.script_lang.specs.declared.fault.ScriptFault.{ScriptFault}
 use Rattle.script_lang.specs.declared.fault.ScriptFault.TheVariants as script_fault
-use Rattle.sketo_run.specs.declared.inputs.FitFault.{FitFault}
-use Rattle.sketo_run.specs.declared.inputs.FitFault.TheVariants.{NotThere, WrongKind}
+use Rattle.script_run.specs.declared.fitting.FitFault.{FitFault}
+use Rattle.script_run.specs.declared.fitting.FitFault.TheVariants.{NotThere, WrongKind, NotLike}
+use Rattle.sketo_run.specs.Inputs.{input_name, like_name}
 use Rattle.sketo_run.specs.Answer.{DataRefusal, faulty, unfit}
 use Rattle.outside.specs.Outside.{Rose, Appends, AppendsFront}
 
@@ -93,21 +94,22 @@ byte_line file byte text = codes "data: " ++ file ++ codes ": byte " ++ byte ++ 
 abbrev pub fault_line : List ℕ → DataFault → List ℕ
 fault_line file fault = byte_line file (decimal (fault_byte fault)) (fault_text fault)
 
-abbrev pub misfit_text : FitFault → List ℕ
-misfit_text (NotThere input) = codes "not there"
-misfit_text (WrongKind input) = codes "wrong kind"
-
 abbrev pub name_line : List ℕ → List ℕ → List ℕ → List ℕ
 name_line file name text = codes "data: " ++ file ++ codes ": " ++ name ++ codes ": " ++ text ++ codes "\n"
 
--- data doesn't fit the input of this name
-abbrev pub misfit_line : List ℕ → List ℕ → FitFault → List ℕ
-misfit_line file name fault = name_line file name (misfit_text fault)
+abbrev pub unlike_line : List ℕ → List ℕ → List ℕ → List ℕ
+unlike_line file name other = codes "data: " ++ (file ++ (codes ": " ++ (name ++ (codes ": not like " ++ (other ++ codes "\n")))))
+
+-- data doesn't fit a script of these lines
+abbrev pub misfit_line : List ℕ → List Statement → FitFault → List ℕ
+misfit_line file lines (NotThere i) = name_line file (input_name lines i) (codes "not there")
+misfit_line file lines (WrongKind i) = name_line file (input_name lines i) (codes "wrong kind")
+misfit_line file lines (NotLike i) = unlike_line file (input_name lines i) (like_name lines i)
 
 -- data is refused
-abbrev pub data_line : List ℕ → Reduction → DataRefusal → List ℕ
-data_line file r (faulty fault) = fault_line file fault
-data_line file r (unfit fault) = misfit_line file r.input fault
+abbrev pub data_line : List ℕ → List Statement → DataRefusal → List ℕ
+data_line file lines (faulty fault) = fault_line file fault
+data_line file lines (unfit fault) = misfit_line file lines fault
 
 -- the line went out, or a front of it where the sink failed in this call
 abbrev pub IsReported : List ℕ → Option (List ℕ) → Option (List ℕ) → ℕ → ℕ → Type 0

@@ -9,6 +9,9 @@ use Rattle.sketo_run.specs.declared.command.Command.TheVariants as asks
 use Rattle.sketo_run.specs.Commands.{Command, run, check, plan, bridges, trial}
 use Rattle.sketo_run.specs.Refusals.{Refusal, no_command, at, too_few}
 use Rattle.sketo_run.specs.Words.{Item, operand, option}
+use Rattle.script_lang.specs.Views.{binding_of}
+use Rattle.sketo_run.specs.declared.input_names.Input as named
+use Rattle.sketo_run.specs.Inputs.{Input}
 
 abbrev pub item_of : items.Item → Item
 item_of (is.Operand word) = operand word.now
@@ -31,3 +34,6 @@ command_of (asks.Check script) = check script.now
 command_of (asks.Plan script) = plan script.now
 command_of (asks.Bridges input name m) = bridges input.now name.now m
 command_of (asks.Trial seed settings) = trial seed settings
+
+abbrev pub input_seen : named.Input → Input
+input_seen x = record { bound = binding_of x.bound.now; like = x.like }

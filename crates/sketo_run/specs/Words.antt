@@ -9,7 +9,7 @@ use Rattle.sketo_run.specs.declared.command.Verb.{Verb}
 use Rattle.sketo_run.specs.declared.command.Verb.TheVariants.{Run, Check, Plan, Bridges, Trial}
 use Rattle.sketo_run.specs.declared.command.Setting.{Setting}
 use Rattle.sketo_run.specs.declared.command.Setting.TheVariants.{M, Block, Workers}
-use Rattle.sketo_run.specs.declared.command.Settings.{Settings}
+use Rattle.script_run.specs.declared.settings.Settings.{Settings}
 use Rattle.sketo_run.specs.declared.telling.Told.{Told}
 use Rattle.sketo_run.specs.declared.telling.Told.TheVariants as told
 use Rattle.sketo_run.specs.declared.refusal.WordFault.{WordFault}

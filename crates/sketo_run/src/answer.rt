@@ -1,70 +1,79 @@
 //! From the two files of a run to its answer.
-ghost use Rattle.std.specs.Prelude.{◌≡◌, ℕ, ℤ, List as Seq, [], ◌∷◌, Some, Ok, IfSome, IfOk, IfErr, IsErrOf, map};
-ghost use Rattle.op_laws.specs.declared.width.Width.TheVariants.{W64};
-ghost use Rattle.op_laws.specs.Elements.{singles};
+ghost use Rattle.std.specs.Prelude.{◌≡◌, Ok, IfSome, IfOk, IfErr, IsErrOf, map, true};
 ghost use Rattle.outside.specs.Outside.{Rose, NoneFell};
-ghost use Rattle.data_text.specs.Named.{section_of, first_of};
-ghost use Rattle.sketo_run.specs.Reductions.{ReducesNumbers, IsReduceScript, IsBuilt};
-ghost use Rattle.sketo_run.specs.Fit.{input_of};
-ghost use Rattle.sketo_run.specs.Answer.{IsAnswer, IsReduced};
+ghost use Rattle.data_text.specs.Named.{section_of};
+ghost use Rattle.script_lang.specs.Views.{statement_of};
+ghost use Rattle.fuse_rewrite.specs.Meaning.{script_meaning};
+ghost use Rattle.script_run.specs.Fit.{fit_of, over_lists};
+ghost use Rattle.sketo_run.specs.Commands.{AreInRange};
+ghost use Rattle.sketo_run.specs.Built.{IsBuilt};
+ghost use Rattle.sketo_run.specs.Answer.{IsAnswer};
 ghost use Rattle.sketo_run.specs.Causes.{IsUnfit, IsCauseOf, IsScriptOf};
 ghost use Rattle.sketo_run.specs.Ends.{WhereTold};
+ghost use Rattle.sketo_run.specs.Reads.{TellsStarted, OthersUnread};
 
-use crate::inputs::input_list;
-use crate::reduction::Reduction;
-use crate::scripts::reduction_in;
+use crate::scripts::built_script;
 use crate::stop::Stop;
-use data_text::{Name, Named, Sections, Shelf, Value, read_data};
-use op_catalog::reduce;
-use op_laws::List;
+use crate::values::Values;
+use data_text::{Sections, Shelf, read_data};
+use fuse_rewrite::plan_of;
+use script_lang::Script;
+use script_run::{Settings, fit, run_script};
 use std::alloc::{AllocError, Global};
+use std::thread::Threads;
+use worker_split::Gate;
 
-// What the operator of a script makes of a list of numbers of 64 bits.
-fn value_of(script: &Reduction, list: &List) -> Value
-    requires ty { list.now.ty ≡ W64 ∷ [] }
-    ensures { (numbers : Seq ℤ) → list.now.items ≡ singles numbers
-        → IsReduced script.now numbers (record { name = script.now.result; value = result }) }
+// What a script prints of data that fits it.
+fn values_of<R: Threads + Sync, G: Gate>(
+    rt: &R,
+    alloc: Global,
+    script: &Script,
+    sections: Sections,
+    settings: Settings,
+    gate: &G,
+) -> Result<Values, AllocError>
+    requires lists { over_lists (map statement_of script.now) ≡ true }
+    requires fits { fit_of (map statement_of script.now) (map section_of sections) ≡ Ok tt }
+    requires ranges { AreInRange settings }
+    ensures { IfOk result (λ v. v ≡ script_meaning (map section_of sections) (map statement_of script.now)) }
 {
-    let op = script.op();
-    let Ok(ty) = op.typed(list.ty()) else {
-        unreachable!()
-    };
-    Value::Single(ty, reduce(list, op))
+    let plan = plan_of(alloc, script)?;
+    let named = run_script(rt, alloc, script, &plan, sections, settings, gate)?;
+    Ok(Values { named })
 }
 
-// The same, under its name.
-fn named(alloc: Global, script: &Reduction, list: &List) -> Result<Named, AllocError>
-    requires ty { list.now.ty ≡ W64 ∷ [] }
-    requires singles { list.now.items ≡ singles (map first_of list.now.items) }
-    ensures { IfOk result (IsReduced script.now (map first_of list.now.items)) }
+// What a script prints of data, where that fits it.
+fn fitted<R: Threads + Sync, G: Gate>(
+    rt: &R,
+    alloc: Global,
+    script: Script,
+    sections: Sections,
+    settings: Settings,
+    gate: &G,
+) -> Result<Values, Stop>
+    requires lists { over_lists (map statement_of script) ≡ true }
+    requires ranges { AreInRange settings }
+    ensures fits { IfOk result (λ _. fit_of (map statement_of script) (map section_of sections) ≡ Ok tt) }
+    ensures values { IfOk result (λ v. v ≡ script_meaning (map section_of sections) (map statement_of script)) }
+    ensures stops { IfErr result (IsUnfit (map statement_of script) (map section_of sections)) }
 {
-    Ok(Named {
-        name: Name::of(alloc, script.result().bytes())?,
-        value: value_of(script, list),
-    })
-}
-
-// What a script makes of data.
-fn reduced(alloc: Global, script: &Reduction, sections: &Sections) -> Result<Named, Stop>
-    ensures ok { IfOk result (λ answer. (numbers : Seq ℤ) × (input_of script.now (map section_of sections.now) ≡ Ok numbers) × IsReduced script.now numbers answer) }
-    ensures err { IfErr result (IsUnfit script.now (map section_of sections.now)) }
-{
-    match input_list(script, sections) {
-        Ok(list) => Ok(named(alloc, script, list)?),
-        Err(fault) => {
-            let name = Name::of(alloc, script.input().bytes())?;
-            Err(Stop::Unfit(fault, name))
-        }
+    match fit(&script, &sections) {
+        Ok(()) => Ok(values_of(rt, alloc, &script, sections, settings, gate)?),
+        Err(fault) => Err(Stop::Unfit(fault, script)),
     }
 }
 
 /// The answer that a script gives on data.
-pub fn answer<F: Shelf>(
+pub fn answer<R: Threads + Sync, F: Shelf, G: Gate>(
+    rt: &R,
     alloc: Global,
-    shelf: &mut F,
     script: &str,
     input: &str,
-) -> Result<Named, Stop>
+    settings: Settings,
+    shelf: &mut F,
+    gate: &G,
+) -> Result<Values, Stop>
+    requires ranges { AreInRange settings }
     ensures ok { IfOk result (λ a. WhereTold (F.content shelf.old) (record { script = script.now; input = input.now }) (λ s d. IsAnswer s d a)) }
     ensures form { IfSome (F.content shelf.old script.now) (λ bytes. IfErr result (λ stop. IsScriptOf stop bytes)) }
     ensures refused { IfErr result (λ stop. WhereTold (F.content shelf.old) (record { script = script.now; input = input.now }) (IsCauseOf stop)) }
@@ -73,8 +82,9 @@ pub fn answer<F: Shelf>(
     ensures input_unread { IsErrOf result Stop.DataUnread → Rose (F.faults shelf.old input.now) (F.faults shelf.new input.now) }
     ensures content { F.content shelf.new ≡ F.content shelf.old }
     ensures never_falls { NoneFell (F.faults shelf.old) (F.faults shelf.new) }
+    ensures others { TellsStarted F.ready F.started → OthersUnread (record { script = script.now; input = input.now }) (F.content shelf.old) (F.faults shelf.old) (F.faults shelf.new) }
 {
-    let reduction = reduction_in(alloc, shelf, script)?;
+    let program = built_script(alloc, shelf, script)?;
     let sections = read_data(alloc, shelf, input)?;
-    reduced(alloc, &reduction, &sections)
+    fitted(rt, alloc, program, sections, settings, gate)
 }

@@ -1,6 +1,8 @@
 //! Commands, with their operands and settings.
 ghost use Rattle.std.specs.Prelude.{◌≡◌};
 
+use script_run::Settings;
+
 /// Which command.
 #[derive(Clone, Copy)]
 pub enum Verb {
@@ -114,14 +116,6 @@ impl Setting {
             Setting::Workers => 2,
         }
     }
-}
-
-/// How work is cut: the most nodes of a bridge, the elements of a block or of a block's side, the workers.
-#[derive(Clone, Copy)]
-pub struct Settings {
-    pub m: u32,
-    pub block: u32,
-    pub workers: u32,
 }
 
 /// The files of a run.

@@ -7,11 +7,12 @@ ghost use Rattle.sketo_run.specs.Commands.{HasRange};
 ghost use Rattle.sketo_run.specs.Seen.{command_of, refusal_of};
 ghost use Rattle.sketo_run.specs.Given.{IsGivenBy};
 
-use crate::command::{Command, RunFiles, Settings, Verb};
+use crate::command::{Command, RunFiles, Verb};
 use crate::given::Given;
 use crate::item::item_at;
 use crate::operands::{Operands, seed_in};
 use crate::refusal::{Refusal, WordFault};
+use script_run::Settings;
 
 // What the words after the command give.
 fn given_by(verb: Verb, words: &[String]) -> Result<Given<'_>, Refusal<'_>>

@@ -5,11 +5,12 @@ ghost use Rattle.sketo_run.specs.Words.{operand, option, operand_fault, value_in
 ghost use Rattle.sketo_run.specs.Seen.{item_of, refusal_of};
 ghost use Rattle.sketo_run.specs.Given.{IsGiven, IsGivenNext, value_kept, kept_with};
 
-use crate::command::{Setting, Settings, Verb};
+use crate::command::{Setting, Verb};
 use crate::item::Item;
 use crate::number::number_in;
 use crate::operands::Operands;
 use crate::refusal::{Refusal, WordFault};
+use script_run::Settings;
 
 /// The operands, and the values of the settings that were given.
 #[derive(Clone, Copy)]

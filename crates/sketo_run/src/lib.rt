@@ -5,13 +5,12 @@ mod answer;
 mod command;
 mod command_line;
 mod given;
-mod inputs;
+mod input_names;
 mod item;
 mod number;
 mod operands;
 mod planned;
 mod print;
-mod reduction;
 mod refusal;
 mod report;
 mod run;
@@ -21,8 +20,9 @@ mod status;
 mod stop;
 mod telling;
 mod top;
+mod values;
 
-pub use inputs::{FitFault, fit};
+pub use script_run::{FitFault, Settings, fit, run_script};
 pub use status::Status;
 pub use top::sketo;
 

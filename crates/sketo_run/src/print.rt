@@ -5,7 +5,7 @@ ghost use Rattle.sketo_run.specs.Report.{IsReported, write_failed};
 
 use crate::report::report_unwritten;
 use crate::status::Status;
-use data_text::{Failed, Named, Outlet, Sink, write_value};
+use data_text::{Failed, Outlet, Sink};
 
 /// What a command answers.
 pub trait Answer {
@@ -20,16 +20,6 @@ pub trait Answer {
         ensures given { OnOk result (IsGiven (text self.now) out.old out.new (O.written sink.old) (O.written sink.new)) }
         ensures cut_off { OnErr result (IsCutOff (text self.now) out.old out.new (O.written sink.old) (O.written sink.new) (O.faults sink.old) (O.faults sink.new)) }
         ensures never_falls { O.faults sink.old ≤ O.faults sink.new };
-}
-
-impl Answer for Named {
-    ghost use Rattle.data_text.specs.Printed.{text_of};
-
-    ghost text = { text_of };
-
-    fn write<O: Sink>(&self, out: &mut Outlet, sink: &mut O) -> Result<(), Failed> {
-        write_value(self, out, sink)
-    }
 }
 
 // Prints an answer.

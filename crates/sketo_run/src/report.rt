@@ -1,17 +1,19 @@
 //! Lines on error output.
-ghost use Rattle.std.specs.Prelude.{◌≡◌, ◌≤◌, OnOk, OnErr};
+ghost use Rattle.std.specs.Prelude.{◌≡◌, ◌≤◌, map, OnOk, OnErr};
 ghost use Rattle.std.specs.List.{flat_map};
 ghost use Rattle.outside.specs.Outside.{Rose, Appends, AppendsFront};
-ghost use Rattle.sketo_run.specs.Report.{IsReported, read_failed, write_failed, no_memory, not_built, byte_line, fault_line, fault_text, fault_byte, name_line, misfit_line, misfit_text, what_text, place_line, long_line, script_line};
+ghost use Rattle.sketo_run.specs.Report.{IsReported, read_failed, write_failed, no_memory, not_built, byte_line, fault_line, fault_text, fault_byte, name_line, unlike_line, misfit_line, what_text, place_line, long_line, script_line};
+ghost use Rattle.script_lang.specs.Views.{statement_of};
 ghost use Rattle.sketo_run.specs.Stops.{line_of};
 ghost use Rattle.sketo_run.specs.Refusals.{refusal_line, word_line};
 ghost use Rattle.sketo_run.specs.Seen.{refusal_of};
 
-use crate::inputs::FitFault;
+use crate::input_names::{input_name, like_name};
 use crate::refusal::Refusal;
 use crate::stop::Stop;
 use data_text::{DataFault, Failed, Outlet, Sink};
-use script_lang::{ScriptFault, ScriptWhat};
+use script_lang::{Script, ScriptFault, ScriptWhat};
+use script_run::FitFault;
 
 // A line of these parts.
 fn put_line<E: Sink>(err: &mut E, parts: &[&[u8]]) -> Result<(), Failed>
@@ -169,19 +171,19 @@ fn report_fault<E: Sink>(err: &mut E, file: &str, fault: DataFault)
     report_byte(err, file, buffer.format(byte), text);
 }
 
-// How the data doesn't fit.
-fn misfit_text(fault: FitFault) -> &'static str
-    ensures { result.now ≡ misfit_text fault }
+// Tells what is wrong with the data under a name.
+fn report_name<'a, E: Sink>(err: &mut E, file: &'a str, name: &'a [u8], text: &'a [u8])
+    ensures { IsReported (name_line file.entry.now name.entry.now text.entry.now) (E.written err.old) (E.written err.new) (E.faults err.old) (E.faults err.new) }
 {
-    match fault {
-        FitFault::NotThere(_) => "not there",
-        FitFault::WrongKind(_) => "wrong kind",
-    }
+    report(
+        err,
+        &[b"data: ", file.as_bytes(), b": ", name, b": ", text, b"\n"],
+    );
 }
 
-// Tells what is wrong with the data under a name.
-fn report_name<'a, E: Sink>(err: &mut E, file: &'a str, name: &'a [u8], text: &'a str)
-    ensures { IsReported (name_line file.entry.now name.entry.now text.entry.now) (E.written err.old) (E.written err.new) (E.faults err.old) (E.faults err.new) }
+// Tells that the data under a name hasn't the shape of that under another.
+fn report_unlike<'a, E: Sink>(err: &mut E, file: &'a str, name: &'a [u8], other: &'a [u8])
+    ensures { IsReported (unlike_line file.entry.now name.entry.now other.entry.now) (E.written err.old) (E.written err.new) (E.faults err.old) (E.faults err.new) }
 {
     report(
         err,
@@ -190,17 +192,24 @@ fn report_name<'a, E: Sink>(err: &mut E, file: &'a str, name: &'a [u8], text: &'
             file.as_bytes(),
             b": ",
             name,
-            b": ",
-            text.as_bytes(),
+            b": not like ",
+            other,
             b"\n",
         ],
     );
 }
 
-fn report_misfit<E: Sink>(err: &mut E, file: &str, name: &[u8], fault: FitFault)
-    ensures { IsReported (misfit_line file.now name.now fault) (E.written err.old) (E.written err.new) (E.faults err.old) (E.faults err.new) }
+fn report_misfit<E: Sink>(err: &mut E, file: &str, script: &Script, fault: FitFault)
+    ensures { IsReported (misfit_line file.now (map statement_of script.now) fault) (E.written err.old) (E.written err.new) (E.faults err.old) (E.faults err.new) }
 {
-    report_name(err, file, name, misfit_text(fault));
+    let lines = script.as_slice();
+    match fault {
+        FitFault::NotThere(i) => report_name(err, file, input_name(lines, i), b"not there"),
+        FitFault::WrongKind(i) => report_name(err, file, input_name(lines, i), b"wrong kind"),
+        FitFault::NotLike(i) => {
+            report_unlike(err, file, input_name(lines, i), like_name(lines, i));
+        }
+    }
 }
 
 /// Tells why there is no answer.
@@ -212,7 +221,7 @@ pub fn report_stop<E: Sink>(err: &mut E, stop: &Stop, script: &str, input: &str)
         Stop::DataUnread => report_unread(err, input),
         Stop::BadScript(fault) => report_script(err, script, *fault),
         Stop::BadData(fault) => report_fault(err, input, *fault),
-        Stop::Unfit(fault, name) => report_misfit(err, input, name.bytes(), *fault),
+        Stop::Unfit(fault, program) => report_misfit(err, input, program, *fault),
         Stop::NoMemory => report_no_memory(err),
         Stop::NotBuilt => report(err, &[b"stage: not built\n"]),
     }

@@ -1,7 +1,8 @@
 //! The bytes of a script.
 ghost use Rattle.std.specs.Prelude.{◌≡◌, IfSome, IfOk, IfErr, IsErrOf, take};
-ghost use Rattle.outside.specs.Outside.{Rose, NoneFell};
+ghost use Rattle.outside.specs.Outside.{Rose, NoneFell, OthersKept};
 ghost use Rattle.sketo_run.specs.Causes.{IsReadStop};
+ghost use Rattle.sketo_run.specs.Reads.{TellsStarted};
 
 use crate::stop::Stop;
 use data_text::Shelf;
@@ -15,6 +16,7 @@ pub fn script_text<F: Shelf>(alloc: Global, shelf: &mut F, name: &str) -> Result
     ensures told { IfSome (F.content shelf.old name.now) (λ all. IfOk result (λ v. v.items ≡ take 65537 all)) }
     ensures content { F.content shelf.new ≡ F.content shelf.old }
     ensures never_falls { NoneFell (F.faults shelf.old) (F.faults shelf.new) }
+    ensures others { TellsStarted F.ready F.started → OthersKept (F.content shelf.old) name.now (F.faults shelf.old) (F.faults shelf.new) }
     ensures unread { IsErrOf result Stop.ScriptUnread → Rose (F.faults shelf.old name.now) (F.faults shelf.new name.now) }
     ensures stops { IfErr result IsReadStop }
 {

@@ -1,14 +1,14 @@
 //! Why there is no answer.
 ghost use Rattle.std.specs.Prelude.{◌≡◌};
 
-use crate::inputs::FitFault;
 use crate::status::Status;
-use data_text::{DataFault, Name};
-use script_lang::ScriptFault;
+use data_text::DataFault;
+use script_lang::{Script, ScriptFault};
+use script_run::FitFault;
 use std::alloc::AllocError;
 
 /// Why there is no answer.
-#[derive(Debug, Drop)]
+#[derive(Drop)]
 pub enum Stop {
     /// The script couldn't be read.
     ScriptUnread,
@@ -18,8 +18,8 @@ pub enum Stop {
     BadScript(ScriptFault),
     /// The data is at fault.
     BadData(DataFault),
-    /// The data doesn't fit the script's input of this name.
-    Unfit(FitFault, Name),
+    /// The data doesn't fit this script.
+    Unfit(FitFault, Script),
     /// Memory was refused.
     NoMemory,
     /// A form that isn't built yet.

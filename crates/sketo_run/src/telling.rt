@@ -1,11 +1,12 @@
 //! What is told of a script alone: the types of its names, or its plan.
 ghost use Rattle.std.specs.Prelude.{◌≡◌, ◌⊎◌, IfSome, IfOk, IfErr, IsErr, IsErrOf};
-ghost use Rattle.outside.specs.Outside.{Rose, NoneFell};
+ghost use Rattle.outside.specs.Outside.{Rose, NoneFell, OthersKept};
 ghost use Rattle.script_lang.specs.Script.{script as language};
 ghost use Rattle.sketo_run.specs.Accounts.{account_text, IsAccount};
 ghost use Rattle.sketo_run.specs.Causes.{IsRefusalOf, IsOfScript};
 ghost use Rattle.sketo_run.specs.Report.{IsReported, read_failed, write_failed, no_memory};
 ghost use Rattle.sketo_run.specs.Ends.{IsTold, IsToldInPart, IsScriptRefused, IsTellingStatus, IsRefusedStatus, IsTellingFaultless};
+ghost use Rattle.sketo_run.specs.Reads.{TellsStarted};
 
 use crate::planned::Planned;
 use crate::print::{Answer, print};
@@ -58,6 +59,7 @@ fn account_of<F: Shelf>(
     ensures unread { IsErrOf result Stop.ScriptUnread → Rose (F.faults shelf.old name.now) (F.faults shelf.new name.now) }
     ensures content { F.content shelf.new ≡ F.content shelf.old }
     ensures never_falls { NoneFell (F.faults shelf.old) (F.faults shelf.new) }
+    ensures others { TellsStarted F.ready F.started → OthersKept (F.content shelf.old) name.now (F.faults shelf.old) (F.faults shelf.new) }
 {
     let script = script_in(alloc, shelf, name)?;
     match what {
@@ -99,6 +101,7 @@ pub fn tell<F: Shelf, O: Sink, E: Sink>(
     ensures unwritten { (result ≡ 3) ⊎ ((result ≡ 5) ⊎ (result ≡ 7)) → out.new ≡ out.old }
     ensures content { F.content shelf.new ≡ F.content shelf.old }
     ensures never_falls { NoneFell (F.faults shelf.old) (F.faults shelf.new) }
+    ensures others { TellsStarted F.ready F.started → OthersKept (F.content shelf.old) script.now (F.faults shelf.old) (F.faults shelf.new) }
 {
     match account_of(alloc, what, shelf, script) {
         Ok(account) => print(out, err, &account).code(),

@@ -1,12 +1,13 @@
 //! The top call.
 ghost use Rattle.std.specs.Prelude.{◌≡◌, ◌⊎◌, ℕ, List, None, IfErr, IfSome, IsOk, IsErr, IsSomeAnd};
-ghost use Rattle.outside.specs.Outside.{Rose, NoneFell};
+ghost use Rattle.outside.specs.Outside.{Rose, NoneFell, OthersKept};
 ghost use Rattle.sketo_run.specs.Words.{command_line, run_files, telling, script_file, texts_of};
 ghost use Rattle.script_lang.specs.Script.{script as language};
 ghost use Rattle.sketo_run.specs.Refusals.{refusal_line};
-ghost use Rattle.sketo_run.specs.Reductions.{IsNotBuilt};
+ghost use Rattle.sketo_run.specs.Built.{IsNotBuilt};
 ghost use Rattle.sketo_run.specs.Report.{IsReported, read_failed, write_failed, no_memory, not_built};
-ghost use Rattle.sketo_run.specs.Ends.{WhereTold, IsPrinted, IsPrintedInPart, IsTold, IsToldInPart, IsScriptRefused, IsDataRefused, IsUnread, IsStatus, IsRefusedStatus, IsFaultless, IsTellingFaultless};
+ghost use Rattle.sketo_run.specs.Ends.{WhereTold, IsPrinted, IsPrintedInPart, IsTold, IsToldInPart, IsScriptRefused, IsDataRefused, IsUnread, IsStatus, IsRefusedStatus, IsUnbuiltStatus, IsFaultless, IsTellingFaultless};
+ghost use Rattle.sketo_run.specs.Reads.{TellsStarted, OthersUnread};
 
 use crate::command::Command;
 use crate::command_line::read_words;
@@ -17,18 +18,22 @@ use crate::stop::Stop;
 use crate::telling::{Told, tell};
 use data_text::{Shelf, Sink};
 use std::alloc::Global;
+use std::thread::Threads;
+use worker_split::Gate;
 
 /// All that the program does. `words` are those after the program's name; what is printed goes to `out`, and
 /// one line to `err` where there is no answer. It answers the status that the program ends with.
 ///
 /// The order is: the words, the reads of the script, the script, the reads and the form of the data, the
 /// name, and then the writing. Memory is taken in proportion to the data; the words and printing take none.
-pub fn sketo<F: Shelf, O: Sink, E: Sink>(
+pub fn sketo<R: Threads + Sync, F: Shelf, O: Sink, E: Sink, G: Gate>(
+    rt: &R,
     alloc: Global,
     words: &[String],
     shelf: &mut F,
     out: &mut O,
     err: &mut E,
+    gate: &G,
 ) -> u8
     ensures statuses { IsStatus result }
 
@@ -67,6 +72,7 @@ pub fn sketo<F: Shelf, O: Sink, E: Sink>(
     ensures memory_line { result ≡ 7 → IsReported no_memory (E.written err.old) (E.written err.new) (E.faults err.old) (E.faults err.new) }
 
     ensures not_built { result ≡ 8 → IfSome (run_files (texts_of words.now)) (λ files. IfSome (F.content shelf.old files.script) IsNotBuilt) }
+    ensures unbuilt_script { IfSome (run_files (texts_of words.now)) (λ files. IfSome (F.content shelf.old files.script) (λ bytes. IsNotBuilt bytes → IsUnbuiltStatus result)) }
     ensures others_not_built { IsOk (command_line (texts_of words.now)) → script_file (texts_of words.now) ≡ None → result ≡ 8 }
     ensures tellings_are_built { result ≡ 8 → telling (texts_of words.now) ≡ None }
     ensures not_built_line { result ≡ 8 → IsReported not_built (E.written err.old) (E.written err.new) (E.faults err.old) (E.faults err.new) }
@@ -80,13 +86,27 @@ pub fn sketo<F: Shelf, O: Sink, E: Sink>(
     ensures unwritten { (result ≡ 2) ⊎ ((result ≡ 3) ⊎ ((result ≡ 4) ⊎ ((result ≡ 5) ⊎ ((result ≡ 7) ⊎ (result ≡ 8))))) → out.new ≡ out.old }
     ensures content { F.content shelf.new ≡ F.content shelf.old }
     ensures never_falls { NoneFell (F.faults shelf.old) (F.faults shelf.new) }
+    ensures others { TellsStarted F.ready F.started → IfSome (run_files (texts_of words.now)) (λ files.
+        OthersUnread files (F.content shelf.old) (F.faults shelf.old) (F.faults shelf.new)) }
+    ensures others_telling { TellsStarted F.ready F.started → IfSome (telling (texts_of words.now)) (λ t.
+        OthersKept (F.content shelf.old) t.script (F.faults shelf.old) (F.faults shelf.new)) }
     ensures unread { script_file (texts_of words.now) ≡ None → shelf.new ≡ shelf.old }
 {
     match read_words(words) {
-        Ok(Command::Run(files, _)) => run(alloc, files.script, files.input, shelf, out, err),
+        Ok(Command::Run(files, settings)) => run(
+            rt,
+            alloc,
+            files.script,
+            files.input,
+            settings,
+            shelf,
+            out,
+            err,
+            gate,
+        ),
         Ok(Command::Check(script)) => tell(alloc, Told::Types, script, shelf, out, err),
         Ok(Command::Plan(script)) => tell(alloc, Told::Plan, script, shelf, out, err),
-        Ok(_) => {
+        Ok(Command::Bridges(..) | Command::Trial(..)) => {
             report_stop(err, &Stop::NotBuilt, "", "");
             Status::NotBuilt.code()
         }

@@ -2,4 +2,12 @@
 #![tactic(auto)]
 
 #[cfg(test)]
+mod failures;
+#[cfg(test)]
+mod gates;
+#[cfg(test)]
+mod lists;
+#[cfg(test)]
+mod runs;
+#[cfg(test)]
 mod tests;

@@ -1,124 +1,12 @@
 //! What no clause says: that a run answers with ample memory, at each device in memory and through each
 //! layer. The expected ends were worked out by hand from the forms of scripts, data and printed text.
-use outside::{MemShelf, MemSink, Shelf, SureShelf};
-use sketo_run::sketo;
+use crate::runs::{
+    FIVE, RUN, SUM, assert_answer, assert_end, files, lines_of, run, run_in_pieces, run_sure, sink,
+};
+use outside::SureShelf;
 use std::alloc::{AllocError, Global};
-use std::process::Abort;
 use std::test::Fail;
-
-const SUM: &str = "input x list\nlet r = reduce add x\nprint r\n";
-
-const FIVE: &str = "x list 5 1 2 3 4 5\n";
-
-const RUN: &str = "run s d";
-
-// How a run ended: its status, and what went to output and to error output.
-#[derive(Drop)]
-struct End {
-    status: u8,
-    out: MemSink,
-    err: MemSink,
-}
-
-// The words of a command line.
-fn words(alloc: Global, line: &str) -> Result<Vec<String>, AllocError> {
-    let mut words = Vec::new(alloc);
-    for word in line.split_whitespace() {
-        words.push(String::from_str(alloc, word)?)?;
-    }
-    Ok(words)
-}
-
-// The files s and d, of which an absent one isn't there.
-fn files(
-    alloc: Global,
-    script: Option<&str>,
-    data: Option<&str>,
-) -> Result<Vec<(String, Vec<u8>)>, AllocError> {
-    let mut files = Vec::new(alloc);
-    for (name, text) in [("s", script), ("d", data)] {
-        if let Some(text) = text {
-            let bytes = text.as_bytes().to_vec(alloc)?;
-            files.push((String::from_str(alloc, name)?, bytes))?;
-        }
-    }
-    Ok(files)
-}
-
-// A sink with room for 100 bytes, whose first put fails after so many bytes, if at all.
-fn sink(alloc: Global, fails_after: Option<u32>) -> Result<MemSink, AllocError> {
-    let mut fails = Vec::new(alloc);
-    if let Some(count) = fails_after {
-        fails.push((0, count))?;
-    }
-    MemSink::new(alloc, 100, fails)
-}
-
-fn run<F: Shelf>(
-    alloc: Global,
-    line: &str,
-    shelf: &mut F,
-    mut out: MemSink,
-    mut err: MemSink,
-) -> Result<End, AllocError> {
-    let words = words(alloc, line)?;
-    let status = sketo(alloc, &words, shelf, &mut out, &mut err);
-    Ok(End { status, out, err })
-}
-
-// A run over a shelf and sinks that don't fail.
-fn run_sure(
-    alloc: Global,
-    line: &str,
-    script: Option<&str>,
-    data: Option<&str>,
-) -> Result<End, AllocError> {
-    let mut shelf = SureShelf::new(alloc, files(alloc, script, data)?);
-    let (out, err) = (sink(alloc, None)?, sink(alloc, None)?);
-    run(alloc, line, &mut shelf, out, err)
-}
-
-// A run over a shelf that reads in pieces, and of whose calls those of these numbers fail.
-fn run_in_pieces(
-    rt: &impl Abort,
-    alloc: Global,
-    files: Vec<(String, Vec<u8>)>,
-    piece: u32,
-    fails: Vec<u32>,
-) -> Result<End, AllocError> {
-    assert!(rt; piece > 0);
-    let mut shelf = MemShelf::new(alloc, files, piece, fails)?;
-    let (out, err) = (sink(alloc, None)?, sink(alloc, None)?);
-    run(alloc, RUN, &mut shelf, out, err)
-}
-
-fn assert_end(rt: &impl Abort, end: &End, status: u8, out: &str, err: &str, row: &str) {
-    assert_eq!(rt; end.status, status, "the status of {row}");
-    assert_eq!(rt; end.out.bytes(), out.as_bytes(), "the output of {row}");
-    assert_eq!(rt;
-        end.err.bytes(),
-        err.as_bytes(),
-        "the error output of {row}"
-    );
-}
-
-// A script makes this output of data, over each shelf.
-fn assert_answer(
-    rt: &impl Abort,
-    alloc: Global,
-    script: &str,
-    data: &str,
-    out: &str,
-) -> Result<(), AllocError> {
-    let end = run_sure(alloc, RUN, Some(script), Some(data))?;
-    assert_end(rt, &end, 0, out, "", data);
-    for piece in [1, 2, 4096] {
-        let files = files(alloc, Some(script), Some(data))?;
-        let end = run_in_pieces(rt, alloc, files, piece, Vec::new(alloc))?;
-        assert_end(rt, &end, 0, out, "", data);
-    }
-    Ok(())
-}
+use worker_split::OpenGate;
 
 #[test]
 fn a_script_adds_up_a_list(rt: HostRuntime) -> Result<(), Fail> {
@@ -149,7 +37,7 @@ fn a_script_adds_up_a_list(rt: HostRuntime) -> Result<(), Fail> {
             "r value 5\n",
         ),
     ] {
-        assert_answer(&rt, alloc, script, data, out)?;
+        assert_answer(&rt, script, data, out)?;
     }
     Ok(())
 }
@@ -180,43 +68,32 @@ fn a_list_is_reduced_by_its_operator(rt: HostRuntime) -> Result<(), Fail> {
     ] {
         let script = format!(in alloc; "input x list\nlet r = reduce {op} x\nprint r\n")?;
         let out = format!(in alloc; "r value {value}\n")?;
-        assert_answer(&rt, alloc, script.as_str(), data, out.as_str())?;
+        assert_answer(&rt, script.as_str(), data, out.as_str())?;
     }
     for block in ["1", "2", "6"] {
         let line = format!(in alloc; "run s d --block {block}")?;
         let script = Some("input x list\nlet r = reduce mss x\nprint r\n");
-        let end = run_sure(alloc, line.as_str(), script, Some(mixed))?;
+        let end = run_sure(&rt, line.as_str(), script, Some(mixed))?;
         assert_end(&rt, &end, 0, "r value 7\n", "", line.as_str());
     }
     Ok(())
 }
 
 #[test]
-fn other_scripts_are_not_built(rt: HostRuntime) -> Result<(), Fail> {
+fn scripts_over_other_kinds_are_not_built(rt: HostRuntime) -> Result<(), Fail> {
     let alloc = rt.alloc();
-    let prints_x = "input x list\nlet r = reduce add x\nprint x\n";
-    let two_prints = "input x list\nlet r = reduce add x\nprint r\nprint x\n";
-    for (script, data) in [
-        (prints_x, Some(FIVE)),
-        (prints_x, Some("x list 1 y")),
-        (prints_x, None),
-        (two_prints, Some(FIVE)),
-        ("", Some(FIVE)),
+    for script in [
+        "input m matrix / print m",
+        "input t tree / let r = reduce sum t / print r",
+        "input x list / input r rose / let s = reduce add x / print s",
     ] {
-        let end = run_sure(alloc, RUN, Some(script), data)?;
-        assert_end(&rt, &end, 8, "", "stage: not built\n", script);
+        let script = lines_of(alloc, script)?;
+        for data in [None, Some(""), Some("x list 1 y"), Some(FIVE)] {
+            let end = run_sure(&rt, RUN, Some(script.as_str()), data)?;
+            assert_end(&rt, &end, 8, "", "stage: not built\n", script.as_str());
+        }
     }
     Ok(())
-}
-
-// A script of these lines, with " / " between them.
-fn script_of(alloc: Global, lines: &str) -> Result<String, AllocError> {
-    let mut script = String::new(alloc);
-    for line in lines.split(" / ") {
-        script.push_str(line)?;
-        script.push('\n')?;
-    }
-    Ok(script)
 }
 
 // Lines of this form with 65 names.
@@ -256,10 +133,10 @@ fn a_script_is_refused_at_its_first_fault(rt: HostRuntime) -> Result<(), Fail> {
             continue;
         };
         count = count.saturating_add(1);
-        let script = script_of(alloc, lines)?;
+        let script = lines_of(alloc, lines)?;
         let told = format!(in alloc; "script: s: {told}\n")?;
         for line in [RUN, "check s"] {
-            let end = run_sure(alloc, line, Some(script.as_str()), None)?;
+            let end = run_sure(&rt, line, Some(script.as_str()), None)?;
             assert_end(&rt, &end, 3, "", told.as_str(), row);
         }
     }
@@ -269,7 +146,7 @@ fn a_script_is_refused_at_its_first_fault(rt: HostRuntime) -> Result<(), Fail> {
         repeated(alloc, "input", " list")?,
         repeated(alloc, "print", "")?
     )?;
-    let end = run_sure(alloc, RUN, Some(prints.as_str()), None)?;
+    let end = run_sure(&rt, RUN, Some(prints.as_str()), None)?;
     assert_end(
         &rt,
         &end,
@@ -282,7 +159,7 @@ fn a_script_is_refused_at_its_first_fault(rt: HostRuntime) -> Result<(), Fail> {
     for _ in 0..65_537 {
         long.push('\n')?;
     }
-    let end = run_sure(alloc, RUN, Some(long.as_str()), None)?;
+    let end = run_sure(&rt, RUN, Some(long.as_str()), None)?;
     assert_end(
         &rt,
         &end,
@@ -311,12 +188,12 @@ fn a_check_tells_the_type_of_each_name(rt: HostRuntime) -> Result<(), Fail> {
             continue;
         };
         count = count.saturating_add(1);
-        let (script, out) = (script_of(alloc, lines)?, script_of(alloc, types)?);
-        let end = run_sure(alloc, "check s", Some(script.as_str()), None)?;
+        let (script, out) = (lines_of(alloc, lines)?, lines_of(alloc, types)?);
+        let end = run_sure(&rt, "check s", Some(script.as_str()), None)?;
         assert_end(&rt, &end, 0, out.as_str(), "", row);
     }
     assert_eq!(rt; count, 5);
-    let end = run_sure(alloc, "check s", None, Some(FIVE))?;
+    let end = run_sure(&rt, "check s", None, Some(FIVE))?;
     assert_end(&rt, &end, 5, "", "read: s: failed\n", "an absent script");
     Ok(())
 }
@@ -339,12 +216,12 @@ fn a_plan_tells_what_is_built(rt: HostRuntime) -> Result<(), Fail> {
             continue;
         };
         count = count.saturating_add(1);
-        let (script, out) = (script_of(alloc, lines)?, script_of(alloc, plan)?);
-        let end = run_sure(alloc, "plan s", Some(script.as_str()), None)?;
+        let (script, out) = (lines_of(alloc, lines)?, lines_of(alloc, plan)?);
+        let end = run_sure(&rt, "plan s", Some(script.as_str()), None)?;
         assert_end(&rt, &end, 0, out.as_str(), "", row);
     }
     assert_eq!(rt; count, 6);
-    let end = run_sure(alloc, "plan s", Some("print r\n"), None)?;
+    let end = run_sure(&rt, "plan s", Some("print r\n"), None)?;
     assert_end(
         &rt,
         &end,
@@ -353,7 +230,7 @@ fn a_plan_tells_what_is_built(rt: HostRuntime) -> Result<(), Fail> {
         "script: s: line 1, column 7: unknown name\n",
         "a fault",
     );
-    let end = run_sure(alloc, "plan s", None, Some(FIVE))?;
+    let end = run_sure(&rt, "plan s", None, Some(FIVE))?;
     assert_end(&rt, &end, 5, "", "read: s: failed\n", "an absent script");
     Ok(())
 }
@@ -381,11 +258,11 @@ fn refused_data_is_told_by_its_first_fault(rt: HostRuntime) -> Result<(), Fail> 
         ("x rose 1 5 0", "x: wrong kind"),
     ] {
         let line = format!(in alloc; "data: d: {told}\n")?;
-        let end = run_sure(alloc, RUN, Some(SUM), Some(data))?;
+        let end = run_sure(&rt, RUN, Some(SUM), Some(data))?;
         assert_end(&rt, &end, 4, "", line.as_str(), data);
         for piece in [1, 2, 4096] {
             let files = files(alloc, Some(SUM), Some(data))?;
-            let end = run_in_pieces(&rt, alloc, files, piece, Vec::new(alloc))?;
+            let end = run_in_pieces(&rt, files, piece, Vec::new(alloc))?;
             assert_end(&rt, &end, 4, "", line.as_str(), data);
         }
     }
@@ -410,7 +287,7 @@ fn refused_words_end_with_their_line(rt: HostRuntime) -> Result<(), Fail> {
         ("check s --m 2", "words: --m: unknown option\n"),
         ("bridges d 1x", "words: 1x: bad name\n"),
     ] {
-        let end = run_sure(alloc, line, Some(SUM), Some(FIVE))?;
+        let end = run_sure(&rt, line, Some(SUM), Some(FIVE))?;
         assert_end(&rt, &end, 2, "", told, line);
     }
     Ok(())
@@ -423,11 +300,11 @@ fn settings_change_no_answer_and_other_commands_are_not_built(rt: HostRuntime) -
         "run s d --m 1 --block 1 --workers 1",
         "run --workers 64 s --block 4294967295 d --m 4294967295",
     ] {
-        let end = run_sure(alloc, line, Some(SUM), Some(FIVE))?;
+        let end = run_sure(&rt, line, Some(SUM), Some(FIVE))?;
         assert_end(&rt, &end, 0, "r value 15\n", "", line);
     }
     for line in ["bridges d t --m 3", "bridges absent t", "trial 1"] {
-        let end = run_sure(alloc, line, Some(SUM), Some(FIVE))?;
+        let end = run_sure(&rt, line, Some(SUM), Some(FIVE))?;
         assert_end(&rt, &end, 8, "", "stage: not built\n", line);
     }
     Ok(())
@@ -443,7 +320,7 @@ fn a_file_that_is_absent_is_named(rt: HostRuntime) -> Result<(), Fail> {
         ("run - d", Some(SUM), Some(FIVE), "read: -: failed\n"),
         ("run s -d", Some(SUM), Some(FIVE), "read: -d: failed\n"),
     ] {
-        let end = run_sure(alloc, line, script, data)?;
+        let end = run_sure(&rt, line, script, data)?;
         assert_end(&rt, &end, 5, "", told, told);
     }
     Ok(())
@@ -457,7 +334,7 @@ fn a_failed_read_names_its_file(rt: HostRuntime) -> Result<(), Fail> {
         let mut fails = Vec::new(alloc);
         fails.push(call)?;
         let files = files(alloc, Some(SUM), Some(FIVE))?;
-        let end = run_in_pieces(&rt, alloc, files, 16, fails)?;
+        let end = run_in_pieces(&rt, files, 16, fails)?;
         let file = if call < 5 { "s" } else { "d" };
         let told = format!(in alloc; "read: {file}: failed\n")?;
         let row = format!(in alloc; "call {call}")?;
@@ -481,7 +358,7 @@ fn a_failed_write_is_told_and_a_failed_report_changes_nothing(rt: HostRuntime) -
     ] {
         let mut shelf = SureShelf::new(alloc, files(alloc, Some(SUM), data)?);
         let (to_out, to_err) = (sink(alloc, out_takes)?, sink(alloc, err_takes)?);
-        let end = run(alloc, RUN, &mut shelf, to_out, to_err)?;
+        let end = run(&rt, RUN, &mut shelf, to_out, to_err, &OpenGate)?;
         let row = format!(in alloc; "status {status}, output takes {out_takes:?}")?;
         assert_end(&rt, &end, status, out, err, row.as_str());
     }

@@ -1,6 +1,6 @@
 use Rattle.std.proofs.Common.{ap, ◌∙◌, Err}
 use Rattle.sketo_run.specs.Statuses.{code_of}
-use Rattle.sketo_run.proofs.EndLemmas.{printed, printed_in_part, answered_code, write_code, stops_faultless, stops_script, stops_refused, stops_unread, stops_unbuilt, run_at_fault, no_run_at_fault}
+use Rattle.sketo_run.proofs.EndLemmas.{printed, printed_in_part, answered_code, write_code, stops_faultless, stops_script, stops_refused, stops_unread, stops_unbuilt, run_at_fault, no_run_at_fault, run_unbuilt, no_run_unbuilt}
 use Rattle.sketo_run.proofs.run.run.Goals as goal
 
 pub returns-in-Ok-clause-answered : goal.returns-in-Ok-clause-answered
@@ -45,3 +45,10 @@ returns-in-Ok-clause-refused_script g c = no_run_at_fault (g.F.Shelf.content c.a
 pub returns-in-Err-clause-refused_script : goal.returns-in-Err-clause-refused_script
 returns-in-Err-clause-refused_script g c =
     run_at_fault (g.F.Shelf.content c.args.shelf.now c.args.script.now) c.in-Err.stop _ (c.code-in-Err.ensures ∙ ap code_of c.status.ensures) c.in-Err.ensures.form
+
+pub returns-in-Ok-clause-unbuilt_script : goal.returns-in-Ok-clause-unbuilt_script
+returns-in-Ok-clause-unbuilt_script g c = no_run_unbuilt (g.F.Shelf.content c.args.shelf.now c.args.script.now) _ c.in-Ok.ensures.built
+
+pub returns-in-Err-clause-unbuilt_script : goal.returns-in-Err-clause-unbuilt_script
+returns-in-Err-clause-unbuilt_script g c =
+    run_unbuilt (g.F.Shelf.content c.args.shelf.now c.args.script.now) c.in-Err.stop _ (c.code-in-Err.ensures ∙ ap code_of c.status.ensures) c.in-Err.ensures.form
