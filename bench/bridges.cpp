@@ -1,6 +1,8 @@
 // The folds of bench/bridges as one scan of the columns with a stack: bridges SHAPE OP NODES RUNS prints
 // the least time of RUNS runs in nanoseconds, and what the tree comes to. SHAPE is 0 for a random tree, 1
 // for a left chain, 2 for a balanced tree; OP is 0 for sum, 1 for heavy.
+#include "twin.hpp"
+
 #include <algorithm>
 #include <chrono>
 #include <cstdint>
@@ -12,7 +14,6 @@
 using std::int64_t;
 using std::uint32_t;
 using std::uint64_t;
-typedef __int128 wide;
 
 static const uint64_t seed = 88172645463325252ull;
 
@@ -21,17 +22,6 @@ static uint64_t next_word(uint64_t &state) {
     state ^= state >> 7;
     state ^= state << 17;
     return state;
-}
-
-static std::string text(wide x) {
-    if (x == 0) return "0";
-    bool negative = x < 0;
-    unsigned __int128 rest = negative ? -static_cast<unsigned __int128>(x) : x;
-    std::string digits;
-    for (; rest; rest /= 10) digits += static_cast<char>('0' + static_cast<int>(rest % 10));
-    if (negative) digits += '-';
-    std::reverse(digits.begin(), digits.end());
-    return digits;
 }
 
 static std::vector<unsigned char> leaves;

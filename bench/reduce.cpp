@@ -1,5 +1,7 @@
 // The reductions of bench/reduce as plain loops: reduce OP COUNT RUNS prints the least time of RUNS
 // runs in nanoseconds, and what the list comes to.
+#include "twin.hpp"
+
 #include <algorithm>
 #include <chrono>
 #include <cstdint>
@@ -10,7 +12,6 @@
 
 using std::int64_t;
 using std::uint64_t;
-typedef __int128 wide;
 
 static uint64_t state = 88172645463325252ull;
 
@@ -19,17 +20,6 @@ static int64_t next_number() {
     state ^= state >> 7;
     state ^= state << 17;
     return static_cast<int64_t>((state | 1) ^ (1ull << 63));
-}
-
-static std::string text(wide x) {
-    if (x == 0) return "0";
-    bool negative = x < 0;
-    unsigned __int128 rest = negative ? -static_cast<unsigned __int128>(x) : x;
-    std::string digits;
-    for (; rest; rest /= 10) digits += static_cast<char>('0' + static_cast<int>(rest % 10));
-    if (negative) digits += '-';
-    std::reverse(digits.begin(), digits.end());
-    return digits;
 }
 
 typedef std::vector<int64_t> Column;
