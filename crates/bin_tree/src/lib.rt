@@ -4,8 +4,6 @@
 mod fault;
 mod rose;
 mod steps;
-#[cfg(test)]
-mod tests;
 mod tree;
 
 pub use fault::TreeFault;

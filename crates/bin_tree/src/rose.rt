@@ -15,10 +15,20 @@ use std::marker::Model;
 /// A rose tree of elements of one type: each node has any number of children. Its nodes are named
 /// by their places in preorder, from 0 on: a node comes before its children's subtrees, and these
 /// follow one another. Beside its elements it takes four bytes a node.
-#[derive(Drop, Debug)]
+#[derive(Debug)]
 pub struct Rose {
     counts: Vec<u32>,
     values: List,
+}
+
+// By hand, so that where a rose tree is let go there is one call, and not one a column.
+impl Drop for Rose {
+    fn drop(self) {
+        let Self {
+            counts: _,
+            values: _,
+        } = self;
+    }
 }
 
 impl Model for Rose {

@@ -24,11 +24,22 @@ pub struct NodeRef {
 /// A binary tree of elements of one type. Its nodes are named by their places in preorder, from 0
 /// on: a node comes before its left subtree, and that before its right one. Beside its elements it
 /// takes five bytes a node.
-#[derive(Drop, Debug)]
+#[derive(Debug)]
 pub struct Tree {
     leaf: Vec<bool>,
     values: List,
     sizes: Vec<u32>,
+}
+
+// By hand, so that where a tree is let go there is one call, and not one a column.
+impl Drop for Tree {
+    fn drop(self) {
+        let Self {
+            leaf: _,
+            values: _,
+            sizes: _,
+        } = self;
+    }
 }
 
 impl Model for Tree {

@@ -1,6 +1,4 @@
 mod Rows
-pub mod HandsLemmas
-pub mod GivenLemmas
 pub mod PrintedLemmas
 mod PrintedRows
 pub mod NumberLemmas

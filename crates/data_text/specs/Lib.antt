@@ -1,11 +1,6 @@
 pub mod Words
-pub mod Numbers
 pub mod Fault
 pub mod Data
-pub mod Hands
-pub mod Pending
-pub mod Given
-pub mod Outlet
 pub mod Printed
 pub mod Named
 pub mod Told

@@ -1,18 +1,18 @@
 //! Sections from words.
 ghost use Rattle.std.specs.Prelude.{◌≡◌, ◌≢◌, ◌<◌, ◌≤◌, ◌+◌, ℕ, List, [], ◌∷◌, length, map, Ok, Some, OnOk, OnErr, IfErr, bytes_eq, true};
 ghost use Rattle.std.specs.List.{All};
-ghost use Rattle.data_text.specs.Numbers.{is_name};
+ghost use Rattle.plain_text.specs.Numbers.{is_name};
 ghost use Rattle.data_text.specs.Stages.{is_open, begun, Keeps};
 ghost use Rattle.data_text.specs.KeepsProp.{keeps_prop};
 
 use crate::data_fault::DataFault;
-use crate::name::{Name, is_name};
 use crate::numbers::{count, count_at, number};
 use crate::sections::Sections;
 use crate::stage::{Form, Stage, mark_of, stage_of, value_of};
 use crate::value::{Named, Value};
 use bin_tree::MAX_ROSE_NODES;
 use op_laws::MAX_ELEMENTS;
+use plain_text::{Name, is_name};
 use std::alloc::Global;
 use std::mem;
 
@@ -44,7 +44,7 @@ impl Parser {
     ghost use Rattle.bin_tree.specs.Places.{IsWhole, arity};
     ghost use Rattle.data_text.specs.Data.{tree, rose, mark_of};
     ghost use Rattle.data_text.specs.Words.{Item, word};
-    ghost use Rattle.data_text.specs.Numbers.{number_of, count_of};
+    ghost use Rattle.plain_text.specs.Numbers.{number_of, count_of};
     ghost use Rattle.data_text.specs.Told.{GoesOn, Gives};
     ghost use Rattle.data_text.specs.Named.{section_of, content_of, mark_of_leaf, IsOfW64};
     ghost use Rattle.data_text.specs.Stages.{awaits_number, awaits_mark, awaits_count, made, Fills};

@@ -3,7 +3,7 @@ use Rattle.std.proofs.Common.{◌≡◌, ℕ, ℤ, pos, negsuc, List, [], ◌∷
 use Rattle.std.specs.Prelude.{codes, flat_map}
 use Rattle.std.specs.Fmt.{digits}
 use Rattle.std.specs.Int.{int_wrap}
-use Rattle.data_text.specs.Numbers.{number_of}
+use Rattle.plain_text.specs.Numbers.{number_of}
 use Rattle.data_text.specs.Data.{Section, many}
 use Rattle.data_text.specs.Printed.{text_of}
 use Rattle.script_words.specs.Lines.{tokens_from}

@@ -2,9 +2,9 @@
 use Rattle.std.proofs.Common.{◌≡◌, ℕ, ◌+◌, ◌<◌, ◌≤◌, List, [], ◌∷◌, ◌++◌, length, take, get_or, Option, refl, sym, ap, ◌∙◌, subst, arith, append_assoc}
 use Rattle.std.specs.Prelude.{reverse, Result, Ok, Err, OnOk, OnErr}
 use Rattle.std.proofs.lemmas.List.{take_more, take_all, reverse-append}
-use Rattle.data_text.specs.Pending.{Pending, IsOpen}
-use Rattle.data_text.specs.Given.{IsGiven, IsCutOff}
-use Rattle.data_text.proofs.GivenLemmas.{given_none, given_then, given_cut, cut_before}
+use Rattle.plain_text.specs.Pending.{Pending, IsOpen}
+use Rattle.plain_text.specs.Given.{IsGiven, IsCutOff}
+use Rattle.plain_text.proofs.GivenLemmas.{given_none, given_then, given_cut, cut_before}
 use Rattle.script_lang.specs.Syntax.{Statement}
 use Rattle.fuse_rewrite.specs.PlanText.{open_text, end_text, skeleton_at, text_of, pipe_text}
 

@@ -2,7 +2,7 @@
 use Rattle.std.specs.Prelude.{ℕ, Bool, true, false, List, [], ◌∷◌, ◌++◌, map, codes, decimal, Option, Some, None, option_and_then, slice_get, flat_map, reverse, if◌then◌else◌}
 use Rattle.std.specs.Fmt.{signed_decimal}
 use Rattle.op_catalog.specs.Catalog.{name_of}
-use Rattle.tree_aux.specs.Names.{tree_name, down_name, rose_name, rose_down_name}
+use Rattle.tree_names.specs.Names.{tree_name, down_name, rose_name, rose_down_name}
 use Rattle.scalar_expr.specs.declared.pair.Pair.{Pair}
 use Rattle.scalar_expr.specs.declared.pair.Pair.TheVariants as pair
 use Rattle.scalar_expr.specs.Expr.{Expr, lit, part, two, cond, wrap}

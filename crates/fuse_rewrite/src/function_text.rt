@@ -1,6 +1,6 @@
 //! Functions as text.
 ghost use Rattle.std.specs.Prelude.{◌≡◌, ◌≤◌, ◌∷◌, ◌++◌, [], decimal, OnOk, OnErr};
-ghost use Rattle.data_text.specs.Given.{IsGiven, IsCutOff};
+ghost use Rattle.plain_text.specs.Given.{IsGiven, IsCutOff};
 ghost use Rattle.scalar_expr.specs.Views.{expr_of, scalars_of};
 ghost use Rattle.fuse_rewrite.specs.PlanText.{closing_text, scalar_text, function_text};
 ghost use Rattle.std.specs.Fmt.{signed_decimal};

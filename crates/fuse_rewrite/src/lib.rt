@@ -10,8 +10,6 @@ mod plan_text;
 mod skeleton;
 mod skeleton_text;
 mod step;
-#[cfg(test)]
-mod tests;
 mod words;
 
 pub use chains::each_step_is_linked;

@@ -1,7 +1,7 @@
 //! Names, pipes, steps and plans as text.
 ghost use Rattle.std.specs.Prelude.{◌≡◌, ◌≤◌, ◌∷◌, ◌++◌, [], true, map, codes, reverse, option_map, OnOk, OnErr};
-ghost use Rattle.data_text.specs.Pending.{IsOpen};
-ghost use Rattle.data_text.specs.Given.{IsGiven, IsCutOff};
+ghost use Rattle.plain_text.specs.Pending.{IsOpen};
+ghost use Rattle.plain_text.specs.Given.{IsGiven, IsCutOff};
 ghost use Rattle.script_lang.specs.Steps.{bound_by};
 ghost use Rattle.script_lang.specs.Views.{skeleton_of, statement_of};
 ghost use Rattle.fuse_rewrite.specs.Arguments.{list_of};

@@ -1,7 +1,7 @@
 //! Skeletons without their names as text.
 ghost use Rattle.std.specs.Prelude.{◌≡◌, ◌≤◌, ◌∷◌, ◌++◌, [], map, codes, OnOk, OnErr};
 ghost use Rattle.std.specs.Fmt.{signed_decimal};
-ghost use Rattle.data_text.specs.Given.{IsGiven, IsCutOff};
+ghost use Rattle.plain_text.specs.Given.{IsGiven, IsCutOff};
 ghost use Rattle.scalar_expr.specs.Views.{scalars_of};
 ghost use Rattle.script_lang.specs.Views.{skeleton_of};
 ghost use Rattle.fuse_rewrite.specs.PlanText.{head_word, op_word, parts_text, function_text, front_text, open_text};

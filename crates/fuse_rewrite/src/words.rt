@@ -1,13 +1,13 @@
 //! The words of skeletons and of operators.
 ghost use Rattle.std.specs.Prelude.{◌≡◌};
 ghost use Rattle.op_catalog.specs.Catalog.{name_of};
-ghost use Rattle.tree_aux.specs.Names.{tree_name, down_name, rose_name, rose_down_name};
+ghost use Rattle.tree_names.specs.Names.{tree_name, down_name, rose_name, rose_down_name};
 ghost use Rattle.script_lang.specs.Views.{fold_op, drop_op, skeleton_of};
 ghost use Rattle.fuse_rewrite.specs.PlanText.{head_word, op_word};
 
 use op_catalog::ListOp;
 use script_lang::{Drop2, Fold, Skel};
-use tree_aux::{DownName, RoseDownName, RoseName, TreeName};
+use tree_names::{DownName, RoseDownName, RoseName, TreeName};
 
 pub(crate) fn head_word<'x>(skel: &Skel) -> &'x [u8]
     ensures { result.now ≡ head_word (skeleton_of skel.now).head }

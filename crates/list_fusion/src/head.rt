@@ -14,7 +14,7 @@ use crate::columns::{copy, copy_back, count_down, count_up};
 use op_laws::{ElemType, List, Tup, Width};
 
 /// Where the elements of a pipe come from.
-#[derive(Drop, Debug)]
+#[derive(Debug)]
 pub enum Head<'a> {
     /// The elements of a list.
     One(&'a List),
@@ -22,6 +22,17 @@ pub enum Head<'a> {
     Two(&'a List, &'a List),
     /// So many numbers of w64, from 0 on.
     Iota(u32),
+}
+
+// By hand, so that where a head is let go there is one call, and not a case for each.
+impl<'a> Drop for Head<'a> {
+    fn drop(self) {
+        match self {
+            Head::One(_) => (),
+            Head::Two(_, _) => (),
+            Head::Iota(_) => (),
+        }
+    }
 }
 
 impl<'a> Head<'a> {

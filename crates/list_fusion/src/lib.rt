@@ -10,8 +10,6 @@ mod numbers;
 mod pipe;
 mod scan;
 mod stage;
-#[cfg(test)]
-mod tests;
 
 pub use block::{build_block, fold_block};
 pub use cuts::blocks_follow;

@@ -23,13 +23,26 @@ use std::marker::Model;
 
 /// Elements, the stages that they go through, and the direction. Nothing is computed until a block
 /// is asked for.
-#[derive(Drop, Debug)]
+#[derive(Debug)]
 pub struct Pipe<'a> {
     head: Head<'a>,
     len: u32,
     stages: Vec<Stage>,
     ty: ElemType,
     reversed: bool,
+}
+
+// By hand, so that where a pipe is let go there is one call, and not one a part.
+impl<'a> Drop for Pipe<'a> {
+    fn drop(self) {
+        let Self {
+            head: _,
+            len: _,
+            stages: _,
+            ty: _,
+            reversed: _,
+        } = self;
+    }
 }
 
 impl<'a> Model for Pipe<'a> {

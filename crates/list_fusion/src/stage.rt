@@ -14,12 +14,22 @@ use op_laws::Tup;
 use scalar_expr::Typed;
 
 /// What a pipe does with each element.
-#[derive(Drop, Debug)]
+#[derive(Debug)]
 pub enum Stage {
     /// The function's value takes the place of the element.
     Map(Typed),
     /// The element stays where the function isn't 0.
     Keep(Typed),
+}
+
+// By hand, so that where a stage is let go there is one call, and not a case for each.
+impl Drop for Stage {
+    fn drop(self) {
+        match self {
+            Stage::Map(_) => (),
+            Stage::Keep(_) => (),
+        }
+    }
 }
 
 impl Stage {

@@ -7,8 +7,6 @@ mod folds;
 mod joining;
 mod reduction;
 mod scanning;
-#[cfg(test)]
-mod tests;
 
 pub use building::build;
 pub use reduction::reduce;

@@ -16,8 +16,6 @@ mod mul;
 mod reduction;
 mod sum;
 mod takes;
-#[cfg(test)]
-mod tests;
 mod types;
 mod visitor;
 mod words;

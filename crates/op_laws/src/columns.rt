@@ -9,12 +9,24 @@ use crate::elem_type::{ElemType, Widths};
 use crate::tup::Tup;
 use std::alloc::{AllocError, Global};
 
-#[derive(Drop, Debug)]
+#[derive(Debug)]
 pub enum Columns {
     One(Column),
     Two(Column, Column),
     Three(Column, Column, Column),
     Four(Column, Column, Column, Column),
+}
+
+// By hand, so that where columns are let go there is one call, and not a case for each count.
+impl Drop for Columns {
+    fn drop(self) {
+        match self {
+            Columns::One(_) => (),
+            Columns::Two(_, _) => (),
+            Columns::Three(_, _, _) => (),
+            Columns::Four(_, _, _, _) => (),
+        }
+    }
 }
 
 impl Columns {

@@ -8,8 +8,6 @@ mod elem_type;
 mod list;
 mod matrix;
 mod operator;
-#[cfg(test)]
-mod tests;
 mod tree_operator;
 mod tup;
 mod width;

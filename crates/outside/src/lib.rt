@@ -11,6 +11,3 @@ pub use device::{Failed, Shelf, Sink};
 pub use mem_shelf::MemShelf;
 pub use mem_sink::MemSink;
 pub use sure_shelf::SureShelf;
-
-#[cfg(test)]
-mod tests;

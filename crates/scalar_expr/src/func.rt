@@ -3,7 +3,7 @@
 use crate::scalar::Scalar;
 
 /// A function on elements: one scalar for each component of what it gives.
-#[derive(Drop, Debug)]
+#[derive(Debug)]
 pub enum Func {
     /// One component.
     One(Scalar),
@@ -13,4 +13,16 @@ pub enum Func {
     Three(Scalar, Scalar, Scalar),
     /// Four components.
     Four(Scalar, Scalar, Scalar, Scalar),
+}
+
+// By hand, so that where a function is let go there is one call, and not a case for each form.
+impl Drop for Func {
+    fn drop(self) {
+        match self {
+            Func::One(_) => (),
+            Func::Two(_, _) => (),
+            Func::Three(_, _, _) => (),
+            Func::Four(_, _, _, _) => (),
+        }
+    }
 }

@@ -19,8 +19,6 @@ mod room;
 mod scalar;
 mod single;
 mod step;
-#[cfg(test)]
-mod tests;
 mod typing;
 mod wide;
 mod wide_words;

@@ -2,7 +2,7 @@
 
 /// A number made of an element's components. Numbers are whole numbers without bound; bits are
 /// those of two's complement of 64 bits.
-#[derive(Drop, Debug)]
+#[derive(Debug)]
 pub enum Scalar {
     /// This number.
     Lit(i64),
@@ -32,4 +32,26 @@ pub enum Scalar {
     Cond(Box<Scalar>, Box<Scalar>, Box<Scalar>),
     /// The number modulo 2^64.
     Wrap(Box<Scalar>),
+}
+
+// By hand, so that where a scalar is let go there is one call, and not a case for each form.
+impl Drop for Scalar {
+    fn drop(self) {
+        match self {
+            Scalar::Lit(_) => (),
+            Scalar::Part(_) => (),
+            Scalar::Add(_, _) => (),
+            Scalar::Sub(_, _) => (),
+            Scalar::Mul(_, _) => (),
+            Scalar::Min(_, _) => (),
+            Scalar::Max(_, _) => (),
+            Scalar::Less(_, _) => (),
+            Scalar::Same(_, _) => (),
+            Scalar::And(_, _) => (),
+            Scalar::Or(_, _) => (),
+            Scalar::Xor(_, _) => (),
+            Scalar::Cond(_, _, _) => (),
+            Scalar::Wrap(_) => (),
+        }
+    }
 }

@@ -1,7 +1,7 @@
 -- Worked rows, by computation: faults of names, kinds and operators.
 use Rattle.std.proofs.Common.{◌≡◌, List, [], ◌∷◌, Err, refl}
 use Rattle.std.specs.Prelude.{codes}
-use Rattle.data_text.specs.Numbers.{number_of}
+use Rattle.plain_text.specs.Numbers.{number_of}
 use Rattle.script_words.specs.declared.fault.ScriptWhat.TheVariants as what
 use Rattle.script_words.specs.Lines.{tokens_from}
 use Rattle.script_words.specs.Reading.{next, name_at, this_at, number_at}

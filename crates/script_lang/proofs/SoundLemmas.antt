@@ -8,7 +8,7 @@ use Rattle.op_laws.specs.declared.width.Width.{Width}
 use Rattle.op_catalog.specs.declared.takes.OpFault.{OpFault}
 use Rattle.op_catalog.specs.declared.takes.OpFault.TheVariants as op_fault
 use Rattle.op_catalog.specs.Catalog.{op_named}
-use Rattle.tree_aux.specs.Names.{tree_named, down_named, rose_named, rose_down_named}
+use Rattle.tree_names.specs.Names.{tree_named, down_named, rose_named, rose_down_named}
 use Rattle.scalar_expr.specs.Typing.{typed}
 use Rattle.scalar_expr.specs.declared.fault.TypeFault.{TypeFault}
 use Rattle.scalar_expr.specs.declared.fault.TypeFault.TheVariants as type_fault

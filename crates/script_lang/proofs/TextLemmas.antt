@@ -2,8 +2,8 @@
 use Rattle.std.proofs.Common.{◌≡◌, ℕ, List, [], ◌∷◌, ◌++◌, length, map, Some, refl, sym, ap, ◌∙◌, subst, arith}
 use Rattle.std.specs.Prelude.{slice_get, flat_map, Option, Result, OnOk, OnErr}
 use Rattle.op_laws.specs.declared.width.Width.{Width}
-use Rattle.data_text.specs.Pending.{Pending}
-use Rattle.data_text.specs.Given.{IsGiven, IsCutOff}
+use Rattle.plain_text.specs.Pending.{Pending}
+use Rattle.plain_text.specs.Given.{IsGiven, IsCutOff}
 use Rattle.script_lang.specs.TypesText.{type_line}
 
 pub one_is : (ty : List Width) (v : Width) → length ty ≡ 1 → slice_get ty 0 ≡ Some v → ty ≡ v ∷ []

@@ -1,7 +1,7 @@
 -- Worked rows, by computation: scripts that are typed.
 use Rattle.std.proofs.Common.{◌≡◌, ℕ, List, [], ◌∷◌, Ok, Err, refl}
 use Rattle.std.specs.Prelude.{codes, Some, None, replicate}
-use Rattle.data_text.specs.Numbers.{number_of}
+use Rattle.plain_text.specs.Numbers.{number_of}
 use Rattle.script_words.specs.Lines.{tokens_from}
 use Rattle.script_words.specs.Reading.{next, name_at, this_at, number_at}
 use Rattle.script_words.specs.Functions.{atom_at, parts_at, nested_at, scalar_at, others_at, scalars_at, function_at}

@@ -7,7 +7,7 @@ use Rattle.op_laws.specs.Widths.{wider_width}
 use Rattle.op_catalog.specs.declared.takes.OpFault.{OpFault}
 use Rattle.op_catalog.specs.declared.takes.OpFault.TheVariants.{WrongArity}
 use Rattle.op_catalog.specs.Catalog.{op_named, typed_of, is_end, abides}
-use Rattle.tree_aux.specs.Names.{tree_named, down_named, rose_named, rose_down_named, tree_typed, down_typed, rose_typed, rose_down_typed}
+use Rattle.tree_names.specs.Names.{tree_named, down_named, rose_named, rose_down_named, tree_typed, down_typed, rose_typed, rose_down_typed}
 use Rattle.script_lang.specs.declared.kind.Kind.{Kind}
 use Rattle.script_lang.specs.declared.kind.Kind.TheVariants as kind
 use Rattle.script_lang.specs.declared.head.Head.{Head}

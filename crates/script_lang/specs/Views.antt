@@ -1,6 +1,6 @@
 -- How the code's lines, skeletons and forms are seen.
 use Rattle.std.specs.Prelude.{ℕ, ℤ, List, [], ◌∷◌, IsTrue}
-use Rattle.data_text.specs.Numbers.{is_name}
+use Rattle.plain_text.specs.Numbers.{is_name}
 use Rattle.scalar_expr.specs.Expr.{Expr}
 use Rattle.scalar_expr.specs.Views.{scalars_of}
 use Rattle.script_words.specs.Lines.{Token}

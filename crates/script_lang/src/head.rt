@@ -1,5 +1,5 @@
 //! The words of skeletons, together and in groups of those that are written alike.
-ghost use Rattle.std.specs.Prelude.{◌≡◌, ◌==◌};
+ghost use Rattle.std.specs.Prelude.{◌≡◌, ◌==◌, drop};
 ghost use Rattle.script_words.specs.Functions.{look_up};
 ghost use Rattle.script_lang.specs.Grammar.{heads};
 ghost use Rattle.script_lang.specs.Tables.{takes_kind, kind_given};
@@ -110,6 +110,13 @@ impl Head {
         if text == b"scanr".as_slice() {
             return Some(Head::Scanr);
         }
+        Self::of_later_word(text)
+    }
+
+    // The one of this word, among those from `rows` on.
+    fn of_later_word(text: &[u8]) -> Option<Head>
+        ensures { result ≡ look_up (drop 10 heads) text.now }
+    {
         if text == b"rows".as_slice() {
             return Some(Head::Rows);
         }

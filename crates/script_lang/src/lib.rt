@@ -23,8 +23,6 @@ mod skel;
 mod skeletons;
 mod slots;
 mod tables;
-#[cfg(test)]
-mod tests;
 mod types_text;
 
 pub use fault::ScriptFault;

@@ -2,8 +2,8 @@
 
 use crate::kind::Kind;
 use crate::skel::Skel;
-use data_text::Name;
 use op_laws::ElemType;
+use plain_text::Name;
 
 /// What a name stands for. Shapes are numbers: values with the same one have the same length, the
 /// same marks or the same counts of children. The line with number i makes the shapes 2i + 1 and

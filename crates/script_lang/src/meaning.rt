@@ -1,6 +1,6 @@
 //! What input and print lines mean after earlier lines.
 ghost use Rattle.std.specs.Prelude.{◌≡◌, ◌<◌, ◌-◌, ◌^◌, length, map, Some, IfOk, IsTrue};
-ghost use Rattle.data_text.specs.Numbers.{is_name};
+ghost use Rattle.plain_text.specs.Numbers.{is_name};
 ghost use Rattle.script_words.specs.Read.{Gives};
 ghost use Rattle.script_lang.specs.Steps.{input_binding, input_across, like_line, input_line, print_line};
 ghost use Rattle.script_lang.specs.Views.{binding_of, statement_of};
@@ -8,8 +8,8 @@ ghost use Rattle.script_lang.specs.Views.{binding_of, statement_of};
 use crate::kind::Kind;
 use crate::line::{Bound, Line};
 use crate::names::{is_new, is_printed, known_at, prints};
-use data_text::Name;
 use op_laws::{ElemType, Width};
+use plain_text::Name;
 use script_words::{LineFault, ScriptWhat, Word, at};
 use std::alloc::{AllocError, Global};
 

@@ -1,7 +1,7 @@
 //! Operators of all tables.
 
 use op_catalog::ListOp;
-use tree_aux::{DownName, RoseDownName, RoseName, TreeName};
+use tree_names::{DownName, RoseDownName, RoseName, TreeName};
 
 /// An operator.
 #[derive(Clone, Copy)]

@@ -14,7 +14,7 @@ use crate::op::Op;
 use crate::skel::{Drop2, Fold};
 use op_catalog::ListOp;
 use script_words::{LineFault, ScriptWhat, Word, at};
-use tree_aux::{DownName, RoseDownName, RoseName, TreeName};
+use tree_names::{DownName, RoseDownName, RoseName, TreeName};
 
 impl Fold {
     pub(crate) fn op(self) -> Op

@@ -2,7 +2,7 @@
 #![tactic(auto, using(crate::proofs::ListLemmas::lengths), unfolding(crate::specs::Steps::let_line, crate::specs::Steps::known_all, crate::specs::Steps::operators_at, crate::specs::Steps::abiding_at, crate::specs::Steps::types_at, crate::specs::Steps::components_at, crate::specs::Steps::pair_at))]
 
 ghost use Rattle.std.specs.Prelude.{◌≡◌, ◌<◌, ◌-◌, ◌^◌, [], ◌∷◌, length, map, IsTrue};
-ghost use Rattle.data_text.specs.Numbers.{is_name};
+ghost use Rattle.plain_text.specs.Numbers.{is_name};
 ghost use Rattle.script_words.specs.Read.{Gives};
 ghost use Rattle.script_lang.specs.Steps.{let_line};
 ghost use Rattle.script_lang.specs.declared.head.Head.TheVariants as heads;

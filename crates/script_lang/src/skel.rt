@@ -2,7 +2,7 @@
 
 use op_catalog::ListOp;
 use scalar_expr::Func;
-use tree_aux::{DownName, RoseDownName, RoseName, TreeName};
+use tree_names::{DownName, RoseDownName, RoseName, TreeName};
 
 /// An operator that reduces: on a list or a matrix, a binary tree, or a rose tree.
 #[derive(Clone, Copy, Debug, PartialEq, Eq)]
@@ -20,7 +20,6 @@ pub enum Drop2 {
 }
 
 /// A skeleton. `x` and `y` are the numbers of the lines that bind its arguments.
-#[derive(Drop)]
 pub enum Skel {
     Map {
         f: Func,
@@ -98,4 +97,47 @@ pub enum Skel {
         start: i64,
         x: u32,
     },
+}
+
+// By hand, so that where a skeleton is let go there is one call, and not a case for each.
+impl Drop for Skel {
+    fn drop(self) {
+        match self {
+            Skel::Map { f: _, x: _ } => (),
+            Skel::Mapln {
+                leaf: _,
+                node: _,
+                x: _,
+            } => (),
+            Skel::Zip { x: _, y: _ } => (),
+            Skel::Filter { f: _, x: _ } => (),
+            Skel::Rev { x: _ } => (),
+            Skel::Iota { x: _ } => (),
+            Skel::Plain { x: _ } => (),
+            Skel::Reduce { op: _, x: _ } => (),
+            Skel::ReduceBoth {
+                down: _,
+                across: _,
+                x: _,
+            } => (),
+            Skel::Scan { op: _, x: _ } => (),
+            Skel::Scanr { op: _, x: _ } => (),
+            Skel::ScanBoth {
+                down: _,
+                across: _,
+                x: _,
+            } => (),
+            Skel::Rows { op: _, x: _ } => (),
+            Skel::Cols { op: _, x: _ } => (),
+            Skel::Transpose { x: _ } => (),
+            Skel::Uacc { op: _, x: _ } => (),
+            Skel::Dacc {
+                op: _,
+                start: _,
+                x: _,
+            } => (),
+            Skel::Getchl { start: _, x: _ } => (),
+            Skel::Getchr { start: _, x: _ } => (),
+        }
+    }
 }

@@ -1,6 +1,6 @@
 //! What skeletons give: kinds, types and shapes.
 ghost use Rattle.std.specs.Prelude.{◌≡◌, ◌<◌, ◌≤◌, ◌+◌, ◌++◌, ◌-◌, ◌^◌, [], ◌∷◌, length, Ok, IfOk, IsTrue};
-ghost use Rattle.data_text.specs.Numbers.{is_name};
+ghost use Rattle.plain_text.specs.Numbers.{is_name};
 ghost use Rattle.script_words.specs.Read.{Gives};
 ghost use Rattle.script_lang.specs.Tables.{type_given, shapes_given, wider_each};
 ghost use Rattle.script_lang.specs.Steps.{type_at, let_binding};
@@ -10,8 +10,8 @@ ghost use Rattle.script_lang.specs.Views.{binding_of, known_of};
 use crate::head::{ChildHead, Head, MapHead, PlainHead};
 use crate::known::Known;
 use crate::line::Bound;
-use data_text::Name;
 use op_laws::{ElemType, Width};
+use plain_text::Name;
 use script_words::{LineFault, ScriptWhat, Word, at};
 use std::alloc::{AllocError, Global};
 

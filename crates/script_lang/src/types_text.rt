@@ -1,15 +1,15 @@
 //! The text that tells the type of each name.
 ghost use Rattle.std.specs.Prelude.{◌≡◌, ◌≤◌, true, [], ◌∷◌, map, flat_map, OnOk, OnErr};
-ghost use Rattle.data_text.specs.Pending.{IsOpen};
-ghost use Rattle.data_text.specs.Given.{IsGiven, IsCutOff};
+ghost use Rattle.plain_text.specs.Pending.{IsOpen};
+ghost use Rattle.plain_text.specs.Given.{IsGiven, IsCutOff};
 ghost use Rattle.script_lang.specs.TypesText.{kind_word, width_word, type_line, binding_text, statement_text, types_text};
 ghost use Rattle.script_lang.specs.Views.{binding_of, statement_of};
 
 use crate::kind::Kind;
 use crate::line::{Bound, Line};
 use crate::script::Script;
-use data_text::{Failed, Outlet, Sink};
 use op_laws::Width;
+use plain_text::{Failed, Outlet, Sink};
 
 impl Kind {
     fn word<'x>(self) -> &'x [u8]

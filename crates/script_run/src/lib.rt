@@ -4,8 +4,6 @@
 mod chain;
 mod finish;
 mod fitting;
-#[cfg(test)]
-mod fitting_tests;
 mod head;
 mod inputs;
 mod laws;
@@ -14,14 +12,11 @@ mod needs;
 mod printed;
 mod reductions;
 mod run;
-#[cfg(test)]
-mod run_tests;
-mod settings;
 mod stages;
 mod step;
 mod steps;
 
+pub use command_words::Settings;
 pub use fitting::{FitFault, fit, over_lists};
 pub use laws::each_step_makes_its_value;
 pub use run::run_script;
-pub use settings::Settings;

@@ -10,8 +10,8 @@ ghost use Rattle.script_run.specs.Fit.{fit_of, over_lists};
 
 use crate::inputs::inputs_of;
 use crate::printed::printed;
-use crate::settings::Settings;
 use crate::steps::run_steps;
+use command_words::Settings;
 use data_text::{Named, Sections};
 use fuse_rewrite::{Plan, each_step_is_linked};
 use script_lang::Script;

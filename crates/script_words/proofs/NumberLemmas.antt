@@ -4,7 +4,7 @@ use Rattle.std.specs.Prelude.{min, pos, neg_ℤ, if◌then◌else◌, ◌&&◌, 
 use Rattle.std.proofs.lemmas.List.Sums.{AllPass-from_list_all}
 use Rattle.std.proofs.lemmas.Bool.Decides.{nat_tests}
 use Rattle.std.proofs.lemmas.Grind.{common_steps}
-use Rattle.data_text.specs.Numbers.{kept_if, is_w64, is_digits}
+use Rattle.plain_text.specs.Numbers.{kept_if, is_w64, is_digits}
 use Rattle.std.specs.Char.{digit_value, is_ascii_digit}
 
 -- past the greatest number of 64 bits it is in no range

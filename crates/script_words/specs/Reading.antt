@@ -1,6 +1,6 @@
 -- The smallest parts of a line. A line ends at the column just past its last word.
 use Rattle.std.specs.Prelude.{ℕ, ◌+◌, ◌-◌, slice_get, List, [], ◌∷◌, length, nat_lt, Option, Some, None, Ok, Err, ℤ, bytes_eq, if◌then◌else◌}
-use Rattle.data_text.specs.Numbers.{number_of, is_name}
+use Rattle.plain_text.specs.Numbers.{number_of, is_name}
 use Rattle.script_words.specs.declared.fault.ScriptWhat.TheVariants.{BadLine}
 use Rattle.script_words.specs.Lines.{Token}
 use Rattle.script_words.specs.Read.{Read, ◌>>=◌, or_fault, unless, spot}

@@ -3,7 +3,7 @@ ghost use Rattle.std.specs.Prelude.{◌≡◌, min, option_map, option_and_then,
 ghost use Rattle.std.specs.Str.Parse.{digits_value};
 ghost use Rattle.std.specs.List.{list_all};
 ghost use Rattle.std.specs.Char.{is_ascii_digit};
-ghost use Rattle.data_text.specs.Numbers.{is_digits, count_of, number_of, kept_if, is_w64};
+ghost use Rattle.plain_text.specs.Numbers.{is_digits, count_of, number_of, kept_if, is_w64};
 ghost use Rattle.script_words.specs.Reading.{short_number};
 
 // The most bytes that a number may have.
@@ -70,7 +70,7 @@ fn signed_count(negative: bool, digits: &[u8]) -> Option<i64>
 }
 
 // The number of 64 bits that a word writes.
-#[tactic(auto, unfolding(data_text::specs::Numbers::number_of))]
+#[tactic(auto, unfolding(plain_text::specs::Numbers::number_of))]
 fn number(text: &[u8]) -> Option<i64>
     ensures { result ≡ number_of text.now }
 {

@@ -1,6 +1,6 @@
 //! The smallest parts of a line. A line ends at `end`, the column just past its last word.
 ghost use Rattle.std.specs.Prelude.{◌≡◌, ◌+◌, length, IfOk, IsTrue};
-ghost use Rattle.data_text.specs.Numbers.{is_name};
+ghost use Rattle.plain_text.specs.Numbers.{is_name};
 ghost use Rattle.script_words.specs.declared.fault.LineFault.TheVariants as fault;
 ghost use Rattle.script_words.specs.Read.{Gives, spot};
 ghost use Rattle.script_words.specs.Reading.{next, name_at, this_at, number_at, nothing_more};
@@ -8,7 +8,7 @@ ghost use Rattle.script_words.specs.Reading.{next, name_at, this_at, number_at, 
 use crate::fault::{LineFault, ScriptWhat, Spot};
 use crate::numbers::short_number;
 use crate::word::Word;
-use data_text::is_name;
+use plain_text::is_name;
 
 /// A fault at a column.
 pub fn at(column: u32, what: ScriptWhat) -> LineFault

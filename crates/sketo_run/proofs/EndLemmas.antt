@@ -8,7 +8,7 @@ use Rattle.data_text.specs.Data.{Section, sections_of}
 use Rattle.script_lang.specs.declared.fault.ScriptFault.{ScriptFault}
 use Rattle.script_lang.specs.Syntax.{Statement}
 use Rattle.script_lang.specs.Script.{script}
-use Rattle.sketo_run.specs.Commands.{Files}
+use Rattle.command_words.specs.Commands.{Files}
 use Rattle.script_lang.specs.Views.{statement_of}
 use Rattle.script_run.specs.Fit.{over_lists}
 use Rattle.sketo_run.specs.Built.{IsBuilt, IsNotBuilt}

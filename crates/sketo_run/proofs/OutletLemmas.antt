@@ -2,9 +2,9 @@
 use Rattle.std.proofs.Common.{ℕ, List, [], ◌++◌, Option, Some, None, ap, refl, sym, ◌∙◌, append_assoc}
 use Rattle.std.specs.Prelude.{Result, Ok, Err, OnErr}
 use Rattle.outside.specs.Outside.{AppendsFront}
-use Rattle.data_text.specs.Pending.{Pending, nothing_pending}
-use Rattle.data_text.specs.Given.{IsGiven}
-use Rattle.data_text.specs.Hands.{Hands}
+use Rattle.plain_text.specs.Pending.{Pending, nothing_pending}
+use Rattle.plain_text.specs.Given.{IsGiven}
+use Rattle.plain_text.specs.Hands.{Hands}
 
 handed_in_part : (x held : List ℕ) (w v u : Option (List ℕ)) → Hands w v x held → AppendsFront v u held → AppendsFront w u x
 handed_in_part x held None v u p q = ([], x, refl, tt)

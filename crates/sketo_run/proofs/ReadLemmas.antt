@@ -5,7 +5,7 @@ use Rattle.script_lang.specs.Syntax.{Statement}
 use Rattle.script_lang.specs.Script.{script}
 use Rattle.script_run.specs.Fit.{over_lists}
 use Rattle.sketo_run.specs.Built.{IsBuilt}
-use Rattle.sketo_run.specs.Commands.{Files}
+use Rattle.command_words.specs.Commands.{Files}
 use Rattle.sketo_run.specs.Reads.{OthersUnread}
 use Rattle.sketo_run.proofs.AnswerLemmas.{one}
 

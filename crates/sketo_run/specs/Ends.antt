@@ -11,7 +11,7 @@ use Rattle.sketo_run.specs.declared.telling.Told.{Told}
 use Rattle.sketo_run.specs.declared.telling.Told.TheVariants as told
 use Rattle.sketo_run.specs.Built.{IsBuilt}
 use Rattle.sketo_run.specs.ValuesText.{values_text}
-use Rattle.sketo_run.specs.Commands.{Files}
+use Rattle.command_words.specs.Commands.{Files}
 use Rattle.sketo_run.specs.Report.{IsReported, script_line, data_line}
 use Rattle.sketo_run.specs.Answer.{IsAnswer, IsRefused, DataRefusal}
 

@@ -1,11 +1,7 @@
-pub mod Refusals
-pub mod Commands
-pub mod Words
-pub mod Seen
-pub mod OperandTexts
-pub mod Given
+pub mod Tellings
 pub mod Built
 pub mod Inputs
+pub mod InputSeen
 pub mod ValuesText
 pub mod Answer
 pub mod Report

@@ -1,7 +1,7 @@
 -- Which files a command has to do with. The others stay as they were.
 use Rattle.std.specs.Prelude.{◌≡◌, ℕ, ◌⊎◌, Bool, List, Option, IsTrue, IsSome, IfSome}
 use Rattle.sketo_run.specs.Built.{IsBuilt}
-use Rattle.sketo_run.specs.Commands.{Files}
+use Rattle.command_words.specs.Commands.{Files}
 
 -- a shelf that tells which name is started, whenever one is
 abbrev pub TellsStarted : {F : Type 0} → (F → Bool) → (F → Option (List ℕ)) → Type 0

@@ -9,7 +9,7 @@ use Rattle.sketo_run.specs.declared.stop.Stop.{Stop}
 use Rattle.sketo_run.specs.declared.stop.Stop.TheVariants as stop
 use Rattle.sketo_run.specs.declared.status.Status.{Status}
 use Rattle.sketo_run.specs.declared.status.Status.TheVariants as status
-use Rattle.sketo_run.specs.Commands.{Files}
+use Rattle.command_words.specs.Commands.{Files}
 use Rattle.sketo_run.specs.Report.{read_failed, no_memory, not_built, script_line, fault_line, misfit_line}
 
 abbrev pub stop_of_script : ScriptFault → Stop

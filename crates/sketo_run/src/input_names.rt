@@ -3,7 +3,7 @@ ghost use Rattle.std.specs.Prelude.{◌≡◌, map, option_map, option_and_then}
 ghost use Rattle.script_lang.specs.Views.{binding_of, statement_of};
 ghost use Rattle.script_lang.specs.Sound.{binding_at};
 ghost use Rattle.sketo_run.specs.Inputs.{input_at, input_name, like_name, name_bound};
-ghost use Rattle.sketo_run.specs.Seen.{input_seen};
+ghost use Rattle.sketo_run.specs.InputSeen.{input_seen};
 
 use script_lang::{Bound, Line};
 

@@ -2,16 +2,9 @@
 #![tactic(auto)]
 
 mod answer;
-mod command;
-mod command_line;
-mod given;
 mod input_names;
-mod item;
-mod number;
-mod operands;
 mod planned;
 mod print;
-mod refusal;
 mod report;
 mod run;
 mod script_text;
@@ -22,9 +15,7 @@ mod telling;
 mod top;
 mod values;
 
-pub use script_run::{FitFault, Settings, fit, run_script};
+pub use command_words::Settings;
+pub use script_run::{FitFault, fit, run_script};
 pub use status::Status;
 pub use top::sketo;
-
-#[cfg(test)]
-mod tests;

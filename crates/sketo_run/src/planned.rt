@@ -1,6 +1,6 @@
 //! A script with its plan.
 ghost use Rattle.std.specs.Prelude.{◌≡◌, ◌≤◌, map, IfOk, OnOk, OnErr};
-ghost use Rattle.data_text.specs.Given.{IsGiven, IsCutOff};
+ghost use Rattle.plain_text.specs.Given.{IsGiven, IsCutOff};
 ghost use Rattle.script_lang.specs.Views.{statement_of};
 ghost use Rattle.fuse_rewrite.specs.Steps.{steps_of};
 ghost use Rattle.fuse_rewrite.specs.PlanText.{plan_text};

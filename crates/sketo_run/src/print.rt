@@ -10,7 +10,7 @@ use data_text::{Failed, Outlet, Sink};
 /// What a command answers.
 pub trait Answer {
     ghost use Rattle.std.specs.Prelude.{◌≡◌, ◌≤◌, ℕ, List, OnOk, OnErr, true};
-    ghost use Rattle.data_text.specs.Given.{IsGiven, IsCutOff};
+    ghost use Rattle.plain_text.specs.Given.{IsGiven, IsCutOff};
 
     /// Its text.
     ghost text: { Self → List ℕ };

@@ -5,12 +5,12 @@ ghost use Rattle.outside.specs.Outside.{Rose, Appends, AppendsFront};
 ghost use Rattle.sketo_run.specs.Report.{IsReported, read_failed, write_failed, no_memory, not_built, byte_line, fault_line, fault_text, fault_byte, name_line, unlike_line, misfit_line, what_text, place_line, long_line, script_line};
 ghost use Rattle.script_lang.specs.Views.{statement_of};
 ghost use Rattle.sketo_run.specs.Stops.{line_of};
-ghost use Rattle.sketo_run.specs.Refusals.{refusal_line, word_line};
-ghost use Rattle.sketo_run.specs.Seen.{refusal_of};
+ghost use Rattle.command_words.specs.Refusals.{refusal_line, word_line};
+ghost use Rattle.command_words.specs.Seen.{refusal_of};
 
 use crate::input_names::{input_name, like_name};
-use crate::refusal::Refusal;
 use crate::stop::Stop;
+use command_words::Refusal;
 use data_text::{DataFault, Failed, Outlet, Sink};
 use script_lang::{Script, ScriptFault, ScriptWhat};
 use script_run::FitFault;

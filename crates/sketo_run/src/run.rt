@@ -4,15 +4,15 @@ ghost use Rattle.outside.specs.Outside.{Rose, NoneFell};
 ghost use Rattle.script_lang.specs.Script.{script as language};
 ghost use Rattle.sketo_run.specs.Built.{IsNotBuilt};
 ghost use Rattle.sketo_run.specs.Report.{IsReported, read_failed, write_failed, no_memory, not_built};
-ghost use Rattle.sketo_run.specs.Commands.{Files, AreInRange};
+ghost use Rattle.command_words.specs.Commands.{Files, AreInRange};
 ghost use Rattle.sketo_run.specs.Ends.{WhereTold, IsPrinted, IsPrintedInPart, IsScriptRefused, IsDataRefused, IsUnread, IsRunStatus, IsRefusedStatus, IsUnbuiltStatus, IsFaultless};
 ghost use Rattle.sketo_run.specs.Reads.{TellsStarted, OthersUnread};
 
 use crate::answer::answer;
 use crate::print::print;
 use crate::report::report_stop;
+use command_words::Settings;
 use data_text::{Shelf, Sink};
-use script_run::Settings;
 use std::alloc::Global;
 use std::thread::Threads;
 use worker_split::Gate;

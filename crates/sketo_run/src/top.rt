@@ -1,21 +1,21 @@
 //! The top call.
 ghost use Rattle.std.specs.Prelude.{◌≡◌, ◌⊎◌, ℕ, List, None, IfErr, IfSome, IsOk, IsErr, IsSomeAnd};
 ghost use Rattle.outside.specs.Outside.{Rose, NoneFell, OthersKept};
-ghost use Rattle.sketo_run.specs.Words.{command_line, run_files, telling, script_file, texts_of};
+ghost use Rattle.command_words.specs.Words.{command_line, run_files, script_file, texts_of};
+ghost use Rattle.sketo_run.specs.Tellings.{telling};
 ghost use Rattle.script_lang.specs.Script.{script as language};
-ghost use Rattle.sketo_run.specs.Refusals.{refusal_line};
+ghost use Rattle.command_words.specs.Refusals.{refusal_line};
 ghost use Rattle.sketo_run.specs.Built.{IsNotBuilt};
 ghost use Rattle.sketo_run.specs.Report.{IsReported, read_failed, write_failed, no_memory, not_built};
 ghost use Rattle.sketo_run.specs.Ends.{WhereTold, IsPrinted, IsPrintedInPart, IsTold, IsToldInPart, IsScriptRefused, IsDataRefused, IsUnread, IsStatus, IsRefusedStatus, IsUnbuiltStatus, IsFaultless, IsTellingFaultless};
 ghost use Rattle.sketo_run.specs.Reads.{TellsStarted, OthersUnread};
 
-use crate::command::Command;
-use crate::command_line::read_words;
 use crate::report::{report_refusal, report_stop};
 use crate::run::run;
 use crate::status::Status;
 use crate::stop::Stop;
 use crate::telling::{Told, tell};
+use command_words::{Command, read_words};
 use data_text::{Shelf, Sink};
 use std::alloc::Global;
 use std::thread::Threads;

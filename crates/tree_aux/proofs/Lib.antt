@@ -1,4 +1,3 @@
-pub mod Named
 pub mod DownMeanings
 pub mod TreeMeanings
 pub mod RoseMeanings

@@ -1,4 +1,3 @@
-pub mod Names
 pub mod Joined
 pub mod JoinedLaws
 pub mod ComingDown

@@ -2,7 +2,6 @@
 #![tactic(auto)]
 
 mod best_sub;
-mod down_name;
 mod expr_op;
 mod heap_index;
 mod heavy;
@@ -16,18 +15,14 @@ mod r_min;
 mod r_path;
 mod r_ring;
 mod r_sum;
-mod rose_down_name;
-mod rose_name;
 mod sums;
 mod t_max;
 mod t_min;
 mod t_sum;
-mod tree_name;
 mod turns;
 mod words;
 
 pub use best_sub::{BestSub, OpenSubtrees, SubtreeSums};
-pub use down_name::DownName;
 pub use expr_op::{Arithmetic, ExprOp, OpenExpr};
 pub use heap_index::HeapIndex;
 pub use heavy::{Heavy, OpenHeavy};
@@ -40,10 +35,7 @@ pub use r_min::RMin;
 pub use r_path::RPath;
 pub use r_ring::{OpenRing, RRing};
 pub use r_sum::RSum;
-pub use rose_down_name::RoseDownName;
-pub use rose_name::RoseName;
 pub use t_max::TMax;
 pub use t_min::TMin;
 pub use t_sum::TSum;
-pub use tree_name::TreeName;
 pub use turns::Turns;

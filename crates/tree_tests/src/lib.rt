@@ -11,6 +11,8 @@ mod downward;
 #[cfg(test)]
 mod names;
 #[cfg(test)]
+mod shapes;
+#[cfg(test)]
 mod trees;
 #[cfg(test)]
 mod up;

@@ -5,7 +5,7 @@ use op_catalog::OpFault;
 use op_laws::{ElemType, Width};
 use std::process::Abort;
 use std::test::Fail;
-use tree_aux::{DownName, RoseDownName, RoseName, TreeName};
+use tree_names::{DownName, RoseDownName, RoseName, TreeName};
 
 // Elements of one number of each width, and of two numbers.
 fn types() -> [ElemType; 4] {

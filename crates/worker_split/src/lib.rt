@@ -13,8 +13,6 @@ mod rule;
 mod schedule;
 mod slots;
 mod task;
-#[cfg(test)]
-mod tests;
 
 pub use board::{Board, MAX_WORKERS, Pass};
 pub use crew::run_tasks;

@@ -1,6 +1,6 @@
 use Rattle.std.proofs.Common.{[], ◌∷◌}
 use Rattle.std.proofs.lemmas.Result.{err_from_is_err_and}
-use Rattle.data_text.proofs.GivenLemmas.{cut_before, cut_after, given_after}
+use Rattle.plain_text.proofs.GivenLemmas.{cut_before, cut_after, given_after}
 use Rattle.scalar_expr.specs.Views.{expr_of}
 use Rattle.fuse_rewrite.specs.PlanText.{closing_text, scalar_text}
 use Rattle.fuse_rewrite.proofs.function_text.write_last_four.Goals as goal

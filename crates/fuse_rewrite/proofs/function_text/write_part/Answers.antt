@@ -1,7 +1,7 @@
 use Rattle.std.proofs.Common.{[], ◌∷◌}
 use Rattle.std.specs.Prelude.{decimal}
 use Rattle.std.proofs.lemmas.Result.{err_from_is_err_and}
-use Rattle.data_text.proofs.GivenLemmas.{cut_before, cut_after, given_after}
+use Rattle.plain_text.proofs.GivenLemmas.{cut_before, cut_after, given_after}
 use Rattle.fuse_rewrite.proofs.function_text.write_part.Goals as goal
 
 pub returns-in_err-text-clause-cut_off : goal.returns-in_err-text-clause-cut_off

@@ -1,7 +1,7 @@
 use Rattle.std.proofs.Common.{[], ◌∷◌, map}
 use Rattle.std.specs.Prelude.{reverse}
 use Rattle.std.proofs.lemmas.Result.{err_from_is_err_and}
-use Rattle.data_text.proofs.GivenLemmas.{cut_before, cut_after, given_after}
+use Rattle.plain_text.proofs.GivenLemmas.{cut_before, cut_after, given_after}
 use Rattle.script_lang.specs.Views.{statement_of}
 use Rattle.fuse_rewrite.specs.PlanText.{pipe_text}
 use Rattle.fuse_rewrite.proofs.plan_text.write_pipe_line.Goals as goal

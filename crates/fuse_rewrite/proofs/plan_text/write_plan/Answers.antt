@@ -2,7 +2,7 @@ use Rattle.std.proofs.Common.{[], map}
 use Rattle.std.proofs.lemmas.Result.{err_from_is_err_and}
 use Rattle.script_lang.specs.Views.{statement_of}
 use Rattle.fuse_rewrite.specs.PlanText.{plan_text}
-use Rattle.data_text.proofs.GivenLemmas.{cut_before, cut_after, given_after}
+use Rattle.plain_text.proofs.GivenLemmas.{cut_before, cut_after, given_after}
 use Rattle.fuse_rewrite.proofs.plan_text.write_plan.Goals as goal
 
 pub returns-in_err-write_nothing-clause-cut_off : goal.returns-in_err-write_nothing-clause-cut_off

@@ -2,7 +2,7 @@ use Rattle.std.proofs.Common.{arith, map}
 use Rattle.std.proofs.lemmas.Result.{err_from_is_err_and}
 use Rattle.script_lang.specs.Views.{statement_of}
 use Rattle.fuse_rewrite.specs.PlanText.{step_text}
-use Rattle.data_text.proofs.GivenLemmas.{loop_cut}
+use Rattle.plain_text.proofs.GivenLemmas.{loop_cut}
 use Rattle.fuse_rewrite.proofs.plan_text.write_steps.Goals as goal
 
 pub returns-in_err-write_step-clause-cut_off : goal.returns-in_err-write_step-clause-cut_off

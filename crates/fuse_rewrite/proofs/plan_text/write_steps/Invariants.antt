@@ -1,7 +1,7 @@
 use Rattle.std.proofs.Common.{◌≤◌, ℕ, List, Option, take, map}
 use Rattle.std.specs.List.{flat_map}
-use Rattle.data_text.specs.Given.{IsGiven}
-use Rattle.data_text.specs.Pending.{Pending}
+use Rattle.plain_text.specs.Given.{IsGiven}
+use Rattle.plain_text.specs.Pending.{Pending}
 use Rattle.script_lang.specs.Views.{statement_of}
 use Rattle.fuse_rewrite.specs.PlanText.{step_text}
 use Rattle.fuse_rewrite.proofs.plan_text.write_steps.Given as goal

@@ -1,6 +1,6 @@
 use Rattle.std.proofs.Common.{[], ◌∷◌}
 use Rattle.std.proofs.lemmas.Result.{err_from_is_err_and}
-use Rattle.data_text.proofs.GivenLemmas.{cut_before, cut_after, given_after}
+use Rattle.plain_text.proofs.GivenLemmas.{cut_before, cut_after, given_after}
 use Rattle.scalar_expr.specs.Views.{scalars_of}
 use Rattle.fuse_rewrite.specs.PlanText.{parts_text, function_text}
 use Rattle.fuse_rewrite.proofs.skeleton_text.write_both_functions.Goals as goal

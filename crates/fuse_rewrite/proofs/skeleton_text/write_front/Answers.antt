@@ -1,7 +1,7 @@
 use Rattle.std.proofs.Common.{◌++◌, map}
 use Rattle.std.specs.Fmt.{signed_decimal}
 use Rattle.std.proofs.lemmas.Result.{err_from_is_err_and}
-use Rattle.data_text.proofs.GivenLemmas.{cut_before, cut_after, given_after}
+use Rattle.plain_text.proofs.GivenLemmas.{cut_before, cut_after, given_after}
 use Rattle.script_lang.specs.Views.{skeleton_of}
 use Rattle.fuse_rewrite.specs.PlanText.{head_word, op_word, parts_text, function_text}
 use Rattle.fuse_rewrite.proofs.skeleton_text.write_front.Goals as goal

@@ -1,6 +1,6 @@
 use Rattle.std.specs.Prelude.{codes}
 use Rattle.std.proofs.lemmas.Result.{err_from_is_err_and}
-use Rattle.data_text.proofs.GivenLemmas.{cut_before, cut_after, given_after}
+use Rattle.plain_text.proofs.GivenLemmas.{cut_before, cut_after, given_after}
 use Rattle.script_lang.specs.Views.{skeleton_of}
 use Rattle.fuse_rewrite.specs.PlanText.{front_text}
 use Rattle.fuse_rewrite.proofs.skeleton_text.write_open.Goals as goal

@@ -3,7 +3,7 @@ use Rattle.std.proofs.lemmas.Result.{err_from_is_err_and}
 use Rattle.script_lang.specs.TypesText.{statement_text}
 use Rattle.script_lang.specs.declared.line.Line.{Line}
 use Rattle.script_lang.specs.Views.{statement_of}
-use Rattle.data_text.proofs.GivenLemmas.{loop_cut}
+use Rattle.plain_text.proofs.GivenLemmas.{loop_cut}
 use Rattle.script_lang.proofs.types_text.write_lines.Goals as goal
 
 pub returns-in_err-write_line-clause-cut_off : goal.returns-in_err-write_line-clause-cut_off

@@ -1,7 +1,7 @@
 use Rattle.std.proofs.Common.{◌≤◌, ℕ, List, Option, take}
 use Rattle.std.specs.List.{flat_map}
-use Rattle.data_text.specs.Given.{IsGiven}
-use Rattle.data_text.specs.Pending.{Pending}
+use Rattle.plain_text.specs.Given.{IsGiven}
+use Rattle.plain_text.specs.Pending.{Pending}
 use Rattle.script_lang.specs.TypesText.{statement_text}
 use Rattle.script_lang.specs.declared.line.Line.{Line}
 use Rattle.script_lang.specs.Views.{statement_of}

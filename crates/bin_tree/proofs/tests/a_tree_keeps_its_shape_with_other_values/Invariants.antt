@@ -1,4 +1,0 @@
-use Rattle.bin_tree.proofs.tests.a_tree_keeps_its_shape_with_other_values.Given as goal
-
-abbrev pub ghosts-assert_nodes : goal.ghosts-assert_nodes
-ghosts-assert_nodes g a = record { name = a.blank.name; parts = a.blank.parts }

@@ -1,0 +1,2 @@
+pub mod HandsLemmas
+pub mod GivenLemmas

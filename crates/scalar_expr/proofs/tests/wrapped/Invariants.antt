@@ -1,7 +1,0 @@
-use Rattle.std.proofs.Common.{◌≡◌, ◌+◌}
-use Rattle.scalar_expr.specs.Expr.{nodes}
-use Rattle.scalar_expr.specs.Views.{expr_of}
-use Rattle.scalar_expr.proofs.tests.wrapped.Given as goal
-
-abbrev pub invariant-loop-i : goal.invariant-loop-i
-invariant-loop-i l = nodes (expr_of l.whole) ≡ nodes (expr_of l.fn.s) + l._i
