@@ -1,6 +1,6 @@
 // The plain loops beside which bench/eval times the evaluation over columns: the sum modulo 2^128 of
 // a function's results. With the words FUNCTION WAY COUNT RUNS it prints the least time of RUNS
-// runs over COUNT numbers, in nanoseconds, and the sum; the words are those of bench_eval.
+// runs over COUNT numbers, in nanoseconds, and the sum; the words are those of `timing eval`.
 #include <algorithm>
 #include <chrono>
 #include <cstdint>

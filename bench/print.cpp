@@ -1,4 +1,4 @@
-// A plain twin of bench_print: NUMBERS RANGE RUNS. Pieces of 4,096 bytes, std::to_chars, write.
+// A plain twin of `timing print`: NUMBERS RANGE RUNS. Pieces of 4,096 bytes, std::to_chars, write.
 #include <charconv>
 #include <chrono>
 #include <cstdint>

@@ -1,0 +1,30 @@
+use Rattle.std.proofs.Common.{◌≡◌, ◌<◌, ◌≤◌, sym, ◌∙◌, ap, arith, length}
+use Rattle.op_laws.specs.declared.TheConstants.{MAX_ELEMENTS}
+use Rattle.op_laws.specs.Laws.{IsElementOf}
+use Rattle.op_laws.specs.Trees.{size}
+use Rattle.bridge_contract.proofs.CutLemmas.{elements_of}
+use Rattle.bridge_contract.proofs.WholeLemmas.{may_join, first_is}
+use Rattle.timing.proofs.bridges.bridged.joined.Goals as goal
+
+pub join_up-requires : goal.join_up-requires
+join_up-requires g c =
+    let op = c.args.op.now in let t = c.args.tree.now.tree in
+    let nodes = c.len-nodes.ensures.value in let few : size t ≤ MAX_ELEMENTS = omega (arith, c.len-nodes.type_inv) in
+    let each = elements_of (g.K.TreeOp.takes op) c.args.tree.now.ty c.requires.takes t c.admitted.ensures in
+    may_join (g.K.TreeOp.upward op) (IsElementOf (g.K.TreeOp.takes op)) (g.K.TreeOp.fits op) (g.K.TreeOp.fits_hole op) t c.args._m c.requires.some few each c.args.parts.now c.requires.parts
+
+pub index-requires : goal.index-requires
+index-requires g c =
+    let op = c.args.op.now in let t = c.args.tree.now.tree in
+    let nodes = c.len-nodes.ensures.value in let few : size t ≤ MAX_ELEMENTS = omega (arith, c.len-nodes.type_inv) in
+    let each = elements_of (g.K.TreeOp.takes op) c.args.tree.now.ty c.requires.takes t c.admitted.ensures in
+    let first = first_is (g.K.TreeOp.upward op) (IsElementOf (g.K.TreeOp.takes op)) (g.K.TreeOp.fits op) (g.K.TreeOp.fits_hole op) t c.args._m c.requires.some few each c.args.parts.now c.in_ok-values.values.items c.requires.parts c.in_ok-values.ensures in
+    let some = first.0 in omega (arith, c.in_ok-values.values.ok.0)
+
+pub returns : goal.returns
+returns g c =
+    let op = c.args.op.now in let t = c.args.tree.now.tree in
+    let nodes = c.len-nodes.ensures.value in let few : size t ≤ MAX_ELEMENTS = omega (arith, c.len-nodes.type_inv) in
+    let each = elements_of (g.K.TreeOp.takes op) c.args.tree.now.ty c.requires.takes t c.admitted.ensures in
+    let first = first_is (g.K.TreeOp.upward op) (IsElementOf (g.K.TreeOp.takes op)) (g.K.TreeOp.fits op) (g.K.TreeOp.fits_hole op) t c.args._m c.requires.some few each c.args.parts.now c.in_ok-values.values.items c.requires.parts c.in_ok-values.ensures in
+    c.index.ensures ∙ first.1 c.index.result.now
