@@ -1,6 +1,6 @@
 -- The values at roots, one part further from the end.
 use Rattle.op_laws.specs.declared.TheConstants.{MAX_ELEMENTS}
-use Rattle.std.proofs.Common.{◌≡◌, ℕ, zero, suc, ◌+◌, ◌-◌, ◌<◌, ◌≤◌, ◌^◌, ◌⊎◌, Bool, true, false, cond, nat_lt, ℤ, List, [], ◌∷◌, ◌++◌, reverse, length, get_or, map, refl, sym, ◌∙◌, ap, subst, arith, inl, inr, append_assoc, length-append}
+use Rattle.std.proofs.Common.{◌≡◌, ℕ, zero, suc, ◌+◌, ◌-◌, ◌<◌, ◌≤◌, ◌^◌, ◌⊎◌, Bool, true, false, cond, nat_lt, ℤ, List, [], ◌∷◌, ◌++◌, reverse, length, get_or, map, refl, sym, ◌∙◌, ap, subst, arith, inl, inr, append_assoc, length-append, Option, Some, None}
 use Rattle.std.specs.List.{flat_map}
 use Rattle.std.proofs.lemmas.Bool.{cases_lt}
 use Rattle.std.proofs.lemmas.List.{reverse-append, reverse-reverse, map-append, append-nil, get_or_append_left, get_or-append_right}
@@ -8,7 +8,7 @@ use Rattle.std.proofs.lemmas.List.Concat.{flat_map-append}
 use Rattle.bin_tree.proofs.TreeLemmas.{if_lt, if_ge}
 use Rattle.op_laws.specs.TreeFolds.{Upward}
 use Rattle.bridge_contract.proofs.Laws.{Laws}
-use Rattle.bridge_contract.specs.Bridged.{Bridged, Ends, Leads, count, preorder, weight, up, ups, FitsEach, AreBridged, AreUps, CanRaise, Raises}
+use Rattle.bridge_contract.specs.Bridged.{Bridged, Ends, Leads, count, preorder, weight, up, ups, belows, FitsEach, AreBridged, AreUps, AreBelows, CanRaise, Raises, Tops}
 use Rattle.bridge_contract.specs.declared.summary.Summary.{Summary}
 use Rattle.bridge_contract.specs.declared.summary.Summary.TheVariants.{Value, Hole}
 
@@ -198,3 +198,66 @@ module _ {A V G : Type 0} (k : Upward A V G) where
   raise_all parts i st out vs z e y t is =
       let last : later t i ≡ t ∷ [] = ap (later t) z in
       e ∙ ((y t is).1 ∙ (ap (flat_map (ups k)) last ∙ append-nil (ups k t)))
+
+  -- the pairs below holes, for the parts from the i-th on
+  abbrev pub Below : List (Summary V G) → ℕ → List (Option (V × V)) → Type 0
+  Below parts i os = (t : Bridged V G) → preorder t ≡ parts → reverse os ≡ flat_map (belows k) (later t i)
+
+  pair_push : (os : List (Option (V × V))) (o : Option (V × V)) → reverse (os ++ o ∷ []) ≡ o ∷ reverse os
+  pair_push os o = reverse-append os (o ∷ [])
+
+  below : (s : Summary V G) (before after : List (Bridged V G)) (st : List (V × ℕ)) (os : List (Option (V × V))) (o : Option (V × V)) → Heads s before after → reverse st ≡ map raised after → Tops s st o
+      → reverse os ≡ flat_map (belows k) after → reverse (os ++ o ∷ []) ≡ flat_map (belows k) before
+  below (Value v n) before after st os o f a is b =
+      pair_push os o ∙ ap (λ x. x ∷ reverse os) is ∙ ap (λ x. None ∷ x) b ∙ sym (ap (flat_map (belows k)) f)
+  below (Hole g n) before after st os o (x, y, rest, e, f) a (st', px, py, same, is) b =
+      let turned : px ∷ py ∷ reverse st' ≡ raised x ∷ raised y ∷ map raised rest =
+      sym (ap reverse same ∙ (push_is (st' ++ py ∷ []) px ∙ ap (λ z. px ∷ z) (push_is st' py))) ∙ (a ∙ ap (map raised) f) in
+      let ex : px ≡ raised x = cc in let ey : py ≡ raised y = cc in
+      let pair : o ≡ Some (up k x, up k y) = is ∙ ap (λ z. Some (z.0, py.0)) ex ∙ ap (λ z. Some (up k x, z.0)) ey in
+      pair_push os o ∙ ap (λ z. z ∷ reverse os) pair
+      ∙ ap (λ z. Some (up k x, up k y) ∷ z) (b ∙ ap (flat_map (belows k)) f ∙ sym (append_assoc (belows k x) (belows k y) (flat_map (belows k) rest)))
+      ∙ sym (ap (flat_map (belows k)) e)
+
+  pub below_more : (parts : List (Summary V G)) (i : ℕ) (s : Summary V G) (st : List (V × ℕ)) (out : List V) (os : List (Option (V × V))) (o : Option (V × V)) → 0 < i → i ≤ length parts → s ≡ get_or parts (i - 1) s
+      → Tops s st o → Raised parts i st out → Below parts i os → Below parts (i - 1) (os ++ o ∷ [])
+  below_more parts i s st out os o p w e tops y z t is =
+      let n = length-preorder t in let l = ap length is in
+      let up_i : suc (i - 1) ≡ i = omega arith in
+      let s_is : s ≡ get_or (preorder t) (i - 1) s = e ∙ ap (λ x. get_or x (i - 1) s) (sym is) in
+      let h = heads_at t (i - 1) s (omega arith) in
+      below s (later t (i - 1)) (later t i) st os o
+      (subst (λ x. Heads s (later t (i - 1)) (later t x)) up_i (subst (λ x. Heads x (later t (i - 1)) (later t (suc (i - 1)))) (sym s_is) h)) (y t is).0 tops (z t is)
+
+  pub below_none : (parts : List (Summary V G)) (os : List (Option (V × V))) → os ≡ [] → Below parts (length parts) os
+  below_none parts os e t is =
+      let n : length parts ≡ count t = ap length (sym is) ∙ length-preorder t in
+      let z : later t (length parts) ≡ [] = ap (later t) n ∙ later_end t in
+      ap reverse e ∙ sym (ap (flat_map (belows k)) z)
+
+  pub below_all : (parts : List (Summary V G)) (i : ℕ) (os vs : List (Option (V × V))) → i ≡ 0 → vs ≡ reverse os → Below parts i os → AreBelows k parts vs
+  below_all parts i os vs z e y t is =
+      let last : later t i ≡ t ∷ [] = ap (later t) z in
+      e ∙ (y t is ∙ (ap (flat_map (belows k)) last ∙ append-nil (belows k t)))
+
+-- two values on top of a stack, by their places
+pub tops_at : {V G : Type 0} (s : Summary V G) (fits_v : V → ℕ → Type 0) (fits_g : G → ℕ → Type 0) (g : G) (n : ℕ) (st : List (V × ℕ)) → s ≡ Hole g n → CanRaise fits_v fits_g s st → 2 ≤ length st
+tops_at s fits_v fits_g g n st e can =
+    let (rest, x, y, is, few, fx, fy) = (subst (λ u. CanRaise fits_v fits_g u st) e can).1 in
+    let l = ap length is in let a = length-append (rest ++ y ∷ []) (x ∷ []) in let b = length-append rest (y ∷ []) in omega arith
+
+pub tops_are : {V G : Type 0} (s : Summary V G) (fits_v : V → ℕ → Type 0) (fits_g : G → ℕ → Type 0) (g : G) (n : ℕ) (st : List (V × ℕ)) (first second : V × ℕ) → s ≡ Hole g n → CanRaise fits_v fits_g s st
+    → first ≡ get_or st (length st - 1) first → second ≡ get_or st (length st - 2) second → Tops s st (Some (first.0, second.0))
+tops_are {V} {G} s fits_v fits_g g n st first second e can f h =
+    let (rest, x, y, is, few, fx, fy) = (subst (λ u. CanRaise fits_v fits_g u st) e can).1 in
+    let l = ap length is in let a = length-append (rest ++ y ∷ []) (x ∷ []) in let b = length-append rest (y ∷ []) in
+    let last : length st - 1 ≡ length (rest ++ y ∷ []) = omega arith in
+    let before : length st - 2 ≡ length rest = omega arith in
+    let first_is : first ≡ x = f ∙ ap (λ us. get_or us (length st - 1) first) is ∙ ap (λ i. get_or ((rest ++ y ∷ []) ++ x ∷ []) i first) last ∙ get_or-append_right (rest ++ y ∷ []) (x ∷ []) (length (rest ++ y ∷ [])) (length (rest ++ y ∷ [])) first refl (omega arith)
+    ∙ ap (λ i. get_or (x ∷ []) i first) (let q : length (rest ++ y ∷ []) - length (rest ++ y ∷ []) ≡ 0 = omega arith in q) in
+    let second_is : second ≡ y = h ∙ ap (λ us. get_or us (length st - 2) second) is ∙ ap (λ i. get_or ((rest ++ y ∷ []) ++ x ∷ []) i second) before
+    ∙ get_or_append_left (rest ++ y ∷ []) (x ∷ []) second (length rest) (omega arith)
+    ∙ get_or-append_right rest (y ∷ []) (length rest) (length rest) second refl (omega arith)
+    ∙ ap (λ i. get_or (y ∷ []) i second) (let q : length rest - length rest ≡ 0 = omega arith in q) in
+    subst (λ (u : Summary V G). Tops u st (Some (first.0, second.0))) (sym e)
+    (rest, x, y, is, ap (λ z. Some (z.0, second.0)) first_is ∙ ap (λ z. Some (x.0, z.0)) second_is)

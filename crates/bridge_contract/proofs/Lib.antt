@@ -11,3 +11,7 @@ pub mod WayLemmas
 pub mod PassLemmas
 pub mod StandLemmas
 pub mod WholeDownLemmas
+pub mod OwnLemmas
+pub mod AtRootsLemmas
+pub mod AtRootsDownLemmas
+pub mod AllBridgesLemmas

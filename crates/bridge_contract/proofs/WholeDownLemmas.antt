@@ -52,14 +52,14 @@ module _ {V D : Type 0} (k : Downward (List ℤ) V D) where
   down_at-top c (Leaf a) = refl
   down_at-top c (Node b l r) = refl
 
-  down_left : (c : V) (b : List ℤ) (l r : BTree (List ℤ)) (i : ℕ) → i < size l → down_at k c (Node b l r) (suc i) ≡ down_at k (k.down c (k.left b)) l i
+  pub down_left : (c : V) (b : List ℤ) (l r : BTree (List ℤ)) (i : ℕ) → i < size l → down_at k c (Node b l r) (suc i) ≡ down_at k (k.down c (k.left b)) l i
   down_left c b l r i p = if_lt i (size l) (down_at k (k.down c (k.left b)) l i) (down_at k (k.down c (k.right b)) r (i - size l)) p
 
-  down_right : (c : V) (b : List ℤ) (l r : BTree (List ℤ)) (i j : ℕ) → i ≡ size l + j → down_at k c (Node b l r) (suc i) ≡ down_at k (k.down c (k.right b)) r j
+  pub down_right : (c : V) (b : List ℤ) (l r : BTree (List ℤ)) (i j : ℕ) → i ≡ size l + j → down_at k c (Node b l r) (suc i) ≡ down_at k (k.down c (k.right b)) r j
   down_right c b l r i j e = if_ge i (size l) (down_at k (k.down c (k.left b)) l i) (down_at k (k.down c (k.right b)) r (i - size l)) (omega arith) ∙ ap (down_at k (k.down c (k.right b)) r) (omega arith)
 
   -- the values below a place come from the value there
-  down_sub : (c : V) (t : BTree (List ℤ)) (i j : ℕ) → i < size t → j < size (sub_at t i) → down_at k c t (i + j) ≡ down_at k (down_at k c t i) (sub_at t i) j
+  pub down_sub : (c : V) (t : BTree (List ℤ)) (i j : ℕ) → i < size t → j < size (sub_at t i) → down_at k c t (i + j) ≡ down_at k (down_at k c t i) (sub_at t i) j
   down_sub c (Leaf a) i j h g = refl
   down_sub c (Node b l r) zero j h g = ap (down_at k c (Node b l r)) (let e : 0 + j ≡ j = omega arith in e)
   down_sub c (Node b l r) (suc i) j h g =

@@ -15,11 +15,12 @@ use Rattle.bridge_contract.proofs.Laws.{Laws}
 use Rattle.m_bridges.specs.Parts.{cut_at}
 use Rattle.bridge_contract.specs.Summaries.{Sums}
 use Rattle.m_bridges.specs.Places.{HoleFits, IsBridgeOf, part_at, back}
-use Rattle.bridge_contract.specs.Bridged.{Bridged, Ends, Leads, preorder, weight, up, ups, FitsEach, AreBridged, AreUps}
+use Rattle.bridge_contract.specs.Bridged.{Bridged, Ends, Leads, preorder, weight, up, ups, belows, FitsEach, AreBridged, AreUps}
 use Rattle.bridge_contract.specs.declared.summary.Summary.{Summary}
 use Rattle.bridge_contract.specs.declared.summary.Summary.TheVariants.{Value, Hole}
 use Rattle.bridge_contract.proofs.CutLemmas.{each_sub}
 use Rattle.bridge_contract.specs.SumsOf.{SumsOf}
+use Rattle.bridge_contract.specs.AtRoots.{pair_below}
 
 module _ (m : ℕ) (pos_m : 0 < m) where
   hole_size : (t : BTree (List ℤ)) (h : ℕ) → hole_of m t ≡ Some h → (h < size t) × (holes (part_of m t) ≡ 1)
@@ -83,9 +84,12 @@ module _ {V G : Type 0} (k : Upward (List ℤ) V G) (takes : (List ℤ) → Type
   abbrev pub fold_at : Bridge → V
   fold_at b = fold_tree k (sub_at t b.root)
 
-  -- the summaries are the preorder of a tree, whose values are the folds at the roots
+  abbrev pub pair_at : Bridge → Option (V × V)
+  pair_at b = pair_below k t b.hole
+
+  -- the summaries are the preorder of a tree, whose values are the folds at the roots, and those below holes the folds there
   abbrev pub IsJoined : BTree (List ℤ) → List Bridge → List (Summary V G) → Type 0
-  IsJoined s bs ss = (x : Bridged V G) × (preorder x ≡ ss) × (weight x ≡ size s) × FitsEach fits_v fits_g x × (up k x ≡ fold_tree k s) × (ups k x ≡ map fold_at bs)
+  IsJoined s bs ss = (x : Bridged V G) × (preorder x ≡ ss) × (weight x ≡ size s) × FitsEach fits_v fits_g x × (up k x ≡ fold_tree k s) × (ups k x ≡ map fold_at bs) × (belows k x ≡ map pair_at bs)
 
   module _ (m : ℕ) (pos_m : 0 < m) (few : size t ≤ MAX_ELEMENTS) (each : Each takes t) where
     whole_case : (s : BTree (List ℤ)) (p : ℕ) → p < size t → sub_at t p ≡ s → IsWhole m s → (ss : List (Summary V G)) → SumsOf k takes fits_v fits_g t (bridge_at m p s ∷ []) ss → IsJoined s (bridge_at m p s ∷ []) ss
@@ -96,7 +100,7 @@ module _ {V G : Type 0} (k : Upward (List ℤ) V G) (takes : (List ℤ) → Type
     whole_case s p h e w (Value v n ∷ []) x =
         let y = subst (λ q. Sums k takes fits_v fits_g q (Value v n)) (part_at_root m pos_m t s p e) x.0 in
         let is : v ≡ fold_tree k s = sym (y.3 s s) ∙ ap (fold_tree k) (w.same s s) in
-        (Ends v n, refl, y.1 ∙ w.all, y.2, is, ap (λ z. z ∷ []) (is ∙ ap (fold_tree k) (sym e)))
+        (Ends v n, refl, y.1 ∙ w.all, y.2, is, ap (λ z. z ∷ []) (is ∙ ap (fold_tree k) (sym e)), sym (ap (λ o. pair_below k t (further p o) ∷ []) w.nowhere))
 
     holed_case : (s : BTree (List ℤ)) (p h : ℕ) (b : (List ℤ)) (l r : BTree (List ℤ)) → p < size t → sub_at t p ≡ s → IsHoled m s h b l r
         → (cs ds : List Bridge) → ((us : List (Summary V G)) → SumsOf k takes fits_v fits_g t cs us → IsJoined l cs us) → ((vs : List (Summary V G)) → SumsOf k takes fits_v fits_g t ds vs → IsJoined r ds vs)
@@ -107,14 +111,22 @@ module _ {V G : Type 0} (k : Upward (List ℤ) V G) (takes : (List ℤ) → Type
     holed_case s p h b l r pw e d cs ds jl jr (Hole g n ∷ ss) x =
         let y = subst (λ q. Sums k takes fits_v fits_g q (Hole g n)) (part_at_root m pos_m t s p e) x.0 in
         let (us, vs, is, xl, xr) = parted cs ds ss x.1 in
-        let (tl, pl, wl, fl, ul, al) = jl us xl in
-        let (tr, pr, wr, fr, ur, ar) = jr vs xr in
+        let (tl, pl, wl, fl, ul, al, bl) = jl us xl in
+        let (tr, pr, wr, fr, ur, ar, br) = jr vs xr in
         let rest = d.rest in let inside = within_at t p pw in let z = ap size e in
         let es = subst (Each takes) e (each_sub takes t p pw each) in
         let below = subst (Each takes) d.here (each_sub takes s h d.within es) in
         let made = y.3 l r below.1 below.2 (omega arith) in
         let here : k.node (up k tl) g (up k tr) ≡ fold_tree k s =
         ap (λ q. k.node q g (up k tr)) ul ∙ (ap (λ q. k.node (fold_tree k l) g q) ur ∙ (sym made ∙ ap (fold_tree k) d.same)) in
+        let kw = d.within in
+        let there : sub_at t (p + h) ≡ Node b l r = sub_sub t p h pw (omega arith) ∙ (ap (λ x. sub_at x h) e ∙ d.here) in
+        let node = is_node_at t (p + h) (omega arith) b l r there in
+        let right_is : sub_at t (p + h + 1 + size (sub_at t (p + h + 1))) ≡ r = ap (λ n. sub_at t (p + h + 1 + n)) (ap size node.left) ∙ node.right in
+        let pair : Option (V × V) = pair_below k t (further p (hole_of m s)) in
+        let pair_is : Some (up k tl, up k tr) ≡ pair =
+        ap (λ z. Some (z, up k tr)) ul ∙ ap (λ z. Some (fold_tree k l, z)) ur ∙ ap (λ z. Some (fold_tree k z, fold_tree k r)) (sym node.left)
+        ∙ ap (λ z. Some (fold_tree k (sub_at t (p + h + 1)), fold_tree k z)) (sym right_is) ∙ sym (ap (λ o. pair_below k t (further p o)) d.place) in
         let own_n = y.1 in (
           Leads g n tl tr,
           ap (λ q. Hole g n ∷ (q ++ preorder tr)) pl ∙ (ap (λ q. Hole g n ∷ (us ++ q)) pr ∙ ap (λ q. Hole g n ∷ q) (sym is)),
@@ -124,6 +136,7 @@ module _ {V G : Type 0} (k : Upward (List ℤ) V G) (takes : (List ℤ) → Type
           ap (λ q. q ∷ (ups k tl ++ ups k tr)) (here ∙ ap (fold_tree k) (sym e))
               ∙ (ap (λ q. fold_tree k (sub_at t p) ∷ (q ++ ups k tr)) al ∙ (ap (λ q. fold_tree k (sub_at t p) ∷ (map fold_at cs ++ q)) ar
               ∙ ap (λ q. fold_tree k (sub_at t p) ∷ q) (sym (map-append fold_at cs ds)))),
+          ap (λ q. q ∷ (belows k tl ++ belows k tr)) pair_is ∙ (ap (λ q. pair ∷ (q ++ belows k tr)) bl ∙ (ap (λ q. pair ∷ (map pair_at cs ++ q)) br ∙ ap (λ q. pair ∷ q) (sym (map-append pair_at cs ds)))),
         )
 
     -- by induction on a bound of the size
@@ -197,12 +210,12 @@ module _ {V G : Type 0} (k : Upward (List ℤ) V G) (takes : (List ℤ) → Type
 
   -- the summaries may be joined, and the first value is the fold of the tree
   pub may_join : (m : ℕ) → 0 < m → size t ≤ MAX_ELEMENTS → Each takes t → (ss : List (Summary V G)) → SumsOf k takes fits_v fits_g t (bridges m 0 t) ss → AreBridged fits_v fits_g ss
-  may_join m p few e ss x = let (y, is, w, f, u, a) = all_joined k takes fits_v fits_g t m p few e ss x in (y, is, f, omega arith)
+  may_join m p few e ss x = let (y, is, w, f, u, a, d) = all_joined k takes fits_v fits_g t m p few e ss x in (y, is, f, omega arith)
 
   pub first_is : (m : ℕ) → 0 < m → size t ≤ MAX_ELEMENTS → Each takes t → (ss : List (Summary V G)) (vs : List V) → SumsOf k takes fits_v fits_g t (bridges m 0 t) ss → AreUps k ss vs
       → (0 < length vs) × ((d : V) → get_or vs 0 d ≡ fold_tree k t)
   first_is m p few e ss vs x a =
-      let (y, is, w, f, u, b) = all_joined k takes fits_v fits_g t m p few e ss x in
+      let (y, is, w, f, u, b, d) = all_joined k takes fits_v fits_g t m p few e ss x in
       let z : vs ≡ map (fold_at k takes fits_v fits_g t) (bridges m 0 t) = a y is ∙ b in
       let n = ap length z in
       (omega arith, (λ d. ap (λ q. get_or q 0 d) z ∙ ap (fold_tree k) (sub_at-top t)))

@@ -1,6 +1,6 @@
 -- The summaries of all bridges as a tree, and the values at its roots.
 use Rattle.op_laws.specs.declared.TheConstants.{MAX_ELEMENTS}
-use Rattle.std.specs.Prelude.{◌≡◌, ℕ, zero, suc, ◌+◌, ◌-◌, ◌<◌, ◌≤◌, ◌^◌, Bool, true, false, cond, nat_lt, List, [], ◌∷◌, ◌++◌}
+use Rattle.std.specs.Prelude.{◌≡◌, ℕ, zero, suc, ◌+◌, ◌-◌, ◌<◌, ◌≤◌, ◌^◌, Bool, true, false, cond, nat_lt, Option, Some, None, List, [], ◌∷◌, ◌++◌}
 use Rattle.op_laws.specs.TreeFolds.{Upward}
 use Rattle.bridge_contract.specs.declared.summary.Summary.{Summary}
 use Rattle.bridge_contract.specs.declared.summary.Summary.TheVariants.{Value, Hole}
@@ -35,6 +35,11 @@ abbrev pub ups : {A V G : Type 0} → Upward A V G → Bridged V G → List V
 ups k (Ends v n) = v ∷ []
 ups k (Leads g n x y) = k.node (up k x) g (up k y) ∷ (ups k x ++ ups k y)
 
+-- the values at the two roots below each hole, in preorder; none where a part has no hole
+abbrev pub belows : {A V G : Type 0} → Upward A V G → Bridged V G → List (Option (V × V))
+belows k (Ends v n) = None ∷ []
+belows k (Leads g n x y) = Some (up k x, up k y) ∷ (belows k x ++ belows k y)
+
 -- each value and each node fits its weight
 abbrev pub FitsEach : {V G : Type 0} → (V → ℕ → Type 0) → (G → ℕ → Type 0) → Bridged V G → Type 0
 FitsEach fits_v fits_g (Ends v n) = fits_v v n
@@ -48,6 +53,10 @@ AreBridged {V} {G} fits_v fits_g parts = (t : Bridged V G) × (preorder t ≡ pa
 abbrev pub AreUps : {A V G : Type 0} → Upward A V G → List (Summary V G) → List V → Type 0
 AreUps {A} {V} {G} k parts vs = (t : Bridged V G) → preorder t ≡ parts → vs ≡ ups k t
 
+-- the pairs are those of the tree whose preorder the parts are
+abbrev pub AreBelows : {A V G : Type 0} → Upward A V G → List (Summary V G) → List (Option (V × V)) → Type 0
+AreBelows {A} {V} {G} k parts os = (t : Bridged V G) → preorder t ≡ parts → os ≡ belows k t
+
 -- a part may be put over what stands on the stack, its top last
 abbrev pub CanRaise : {V G : Type 0} → (V → ℕ → Type 0) → (G → ℕ → Type 0) → Summary V G → List (V × ℕ) → Type 0
 CanRaise fits_v fits_g (Value v n) st = Unit {0}
@@ -58,3 +67,8 @@ CanRaise {V} fits_v fits_g (Hole g n) st =
 abbrev pub Raises : {A V G : Type 0} → Upward A V G → Summary V G → List (V × ℕ) → List (V × ℕ) → V × ℕ → Type 0
 Raises k (Value v n) before after r = (after ≡ before) × (r ≡ (v, n))
 Raises {A} {V} k (Hole g n) before after r = (x : V × ℕ) × (y : V × ℕ) × (before ≡ (after ++ y ∷ []) ++ x ∷ []) × (r ≡ (k.node x.0 g y.0, x.1 + n + y.1))
+
+-- the values that the part takes from the stack, where it takes any
+abbrev pub Tops : {V G : Type 0} → Summary V G → List (V × ℕ) → Option (V × V) → Type 0
+Tops (Value v n) st o = o ≡ None
+Tops {V} (Hole g n) st o = (rest : List (V × ℕ)) × (x : V × ℕ) × (y : V × ℕ) × (st ≡ (rest ++ y ∷ []) ++ x ∷ []) × (o ≡ Some (x.0, y.0))

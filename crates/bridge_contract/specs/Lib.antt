@@ -9,3 +9,5 @@ pub mod DownsOf
 pub mod Ways
 pub mod OwnNodes
 pub mod Passing
+pub mod AtRoots
+pub mod AllBridges

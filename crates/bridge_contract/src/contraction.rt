@@ -1,11 +1,13 @@
 //! A bridge is contracted to one value.
 
-ghost use Rattle.std.specs.Prelude.{◌≡◌, ℕ, ◌+◌, ◌-◌, ◌<◌, ◌≤◌, ◌^◌, ℤ, IfOk, length, ◌++◌, ◌∷◌, []};
+ghost use Rattle.std.specs.Prelude.{◌≡◌, ℕ, ◌+◌, ◌-◌, ◌<◌, ◌≤◌, ◌^◌, ℤ, None, IfOk, length, ◌++◌, ◌∷◌, []};
 ghost use Rattle.op_laws.specs.Laws.{IsElementOf};
 ghost use Rattle.op_laws.specs.Trees.{size, sub_at, Each};
+ghost use Rattle.op_laws.specs.TreeFolds.{fold_tree};
 ghost use Rattle.m_bridges.specs.Parts.{own};
 ghost use Rattle.m_bridges.specs.Places.{IsBridgeOf, part_at};
 ghost use Rattle.bridge_contract.specs.Summaries.{joined, Sums};
+ghost use Rattle.bridge_contract.specs.declared.summary.Summary.TheVariants.{Value};
 ghost use Rattle.bridge_contract.specs.Pending.{tree_head, head_at, beside};
 ghost use Rattle.bridge_contract.specs.Stacked.{Joinable, HeadTakes, IsReady, Fronted};
 
@@ -148,6 +150,8 @@ pub fn contract<K: TreeOp, L: Ledger>(
     requires takes { K.takes op.now tree.now.ty }
     requires bridge { IsBridgeOf tree.now.tree bridge.now }
     ensures sums { IfOk result (Sums (K.upward op.now) (IsElementOf (K.takes op.now)) (K.fits op.now) (K.fits_hole op.now) (part_at tree.now.tree bridge.now)) }
+    // without a hole it is the fold of the subtree at the root
+    ensures whole { bridge.now.hole ≡ None → IfOk result (λ s. s ≡ Value (fold_tree (K.upward op.now) (sub_at tree.now.tree bridge.now.root)) bridge.now.own) }
     ensures few_steps { steps.new ≤ steps.old + bridge.now.own }
 {
     tree.admitted();

@@ -1,9 +1,10 @@
 //! A bridge's own nodes are filled from its root down.
 
-ghost use Rattle.std.specs.Prelude.{◌≡◌, ◌+◌, ◌*◌, ◌≤◌, IfOk, map};
+ghost use Rattle.std.specs.Prelude.{◌≡◌, ℕ, ◌+◌, ◌*◌, ◌<◌, ◌≤◌, Some, IfOk, map, slice_get};
 ghost use Rattle.op_laws.specs.Laws.{IsElementOf};
-ghost use Rattle.m_bridges.specs.Places.{IsBridgeOf, part_at};
+ghost use Rattle.m_bridges.specs.Places.{IsBridgeOf, part_at, own_place};
 ghost use Rattle.bridge_contract.specs.Downs.{own_downs};
+ghost use Rattle.bridge_contract.specs.DownsOf.{down_at};
 ghost use Rattle.bridge_contract.specs.OwnNodes.{depth_at};
 ghost use Rattle.bridge_contract.specs.Stacked.{HeadTakes};
 ghost use Rattle.bridge_contract.specs.Passing.{CanPass, passed};
@@ -55,6 +56,9 @@ pub fn expand_down<D: DownOp>(
     requires value { D.fits op.now c (1 + 2 * depth_at tree.now.tree bridge.now.root) }
     ensures ty { IfOk result (λ v. v.ty ≡ D.gives op.now tree.now.ty) }
     ensures items { IfOk result (λ v. v.items ≡ map (D.finished op.now) (own_downs (D.downward op.now) c (part_at tree.now.tree bridge.now))) }
+    // by places: where c is the value that comes down to the root, the entry number j is the one that comes down to the own place number j
+    ensures each { IfOk result (λ v. (top : D.V) → c ≡ down_at (D.downward op.now) top tree.now.tree bridge.now.root → (j : ℕ) → j < bridge.now.own
+        → slice_get v.items j ≡ Some (D.finished op.now (down_at (D.downward op.now) top tree.now.tree (own_place tree.now.tree bridge.now j)))) }
 {
     tree.admitted();
     let weight = tree.len() - tree.size(bridge.root) + 1;

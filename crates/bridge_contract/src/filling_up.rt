@@ -1,10 +1,10 @@
 //! A bridge's own nodes are filled from its leaves and its hole up.
 
-ghost use Rattle.std.specs.Prelude.{◌≡◌, ◌+◌, ◌≤◌, IfOk, map};
+ghost use Rattle.std.specs.Prelude.{◌≡◌, ℕ, ◌+◌, ◌<◌, ◌≤◌, Some, IfOk, map, slice_get};
 ghost use Rattle.op_laws.specs.Laws.{IsElementOf};
-ghost use Rattle.op_laws.specs.Trees.{size, Each};
+ghost use Rattle.op_laws.specs.Trees.{size, sub_at, Each};
 ghost use Rattle.op_laws.specs.TreeFolds.{fold_tree};
-ghost use Rattle.m_bridges.specs.Places.{IsBridgeOf, part_at};
+ghost use Rattle.m_bridges.specs.Places.{IsBridgeOf, part_at, own_place};
 ghost use Rattle.bridge_contract.specs.OwnNodes.{own_subs, AreBelow, left_below, right_below};
 ghost use Rattle.bridge_contract.specs.Stacked.{HeadTakes};
 ghost use Rattle.bridge_contract.specs.Passing.{AreWeighed, over, CanMeet, CanStand, Stands};
@@ -93,6 +93,9 @@ pub fn expand_up<K: TreeOp>(
     ensures ty { IfOk result (λ v. v.ty ≡ K.gives op.now tree.now.ty) }
     ensures items { IfOk result (λ v. v.items ≡ map (λ s. K.finished op.now (fold_tree (K.upward op.now) s))
         (own_subs (part_at tree.now.tree bridge.now) (left_below tree.now.tree bridge.now.hole) (right_below tree.now.tree bridge.now.hole))) }
+    // by places: the entry number j is that of the subtree at the own place number j
+    ensures each { IfOk result (λ v. (j : ℕ) → j < bridge.now.own
+        → slice_get v.items j ≡ Some (K.finished op.now (fold_tree (K.upward op.now) (sub_at tree.now.tree (own_place tree.now.tree bridge.now j))))) }
 {
     tree.admitted();
     let _nodes = tree.len();

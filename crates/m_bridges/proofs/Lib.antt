@@ -7,5 +7,6 @@ pub mod PathLemmas
 pub mod FullLemmas
 pub mod PlacedLemmas
 pub mod PathPlaces
+pub mod AscentLemmas
 pub mod SplitLemmas
 pub mod Rows

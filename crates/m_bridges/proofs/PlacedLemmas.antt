@@ -8,7 +8,7 @@ use Rattle.bin_tree.proofs.TreeLemmas.{size_pos, within_at, sub_at-top, IsNodeAt
 use Rattle.bin_tree.proofs.Places.{sub_sub, is_node_at}
 use Rattle.m_bridges.specs.Parts.{part_of, own, hole_of, further}
 use Rattle.m_bridges.specs.Bridges.{bridge_at, bridges_below, bridges}
-use Rattle.m_bridges.specs.Places.{HoleFits, IsBridgeOf, IsOwnPlace, OwnsPlace, IsOwnedOnce}
+use Rattle.m_bridges.specs.Places.{HoleFits, IsBridgeOf, IsOwnPlace, OwnsPlace}
 use Rattle.m_bridges.specs.declared.bridge.Bridge.{Bridge}
 use Rattle.m_bridges.proofs.Cuts.{cut, IsWhole, IsHoled, own_few}
 
@@ -29,12 +29,17 @@ is_first x xs = (0, omega arith, refl)
 pub is_later : {X : Type 0} (x y : X) (xs : List X) → Contains xs y → Contains (x ∷ xs) y
 is_later x y xs c = Contains-append_right (x ∷ []) xs y c
 
+-- of the bridges one owns the node at the place, and no bridge that differs from it
+pub record OwnedOnce {A : Type 0} (t : BTree A) (bs : List Bridge) (i : ℕ) : Type 0 where
+  pub some : (b : Bridge) × Contains bs b × OwnsPlace t b i
+  pub only : (b c : Bridge) → Contains bs b → Contains bs c → OwnsPlace t b i → OwnsPlace t c i → b ≡ c
+
 -- these bridges are of the tree, and own each place from `at` on so far as n once, and no other
 pub record ArePlaced {A : Type 0} (m : ℕ) (t : BTree A) (at n : ℕ) (bs : List Bridge) : Type 0 where
   pub of : All (IsBridgeOf t) bs
   pub few : All (λ b. b.own ≤ m) bs
   pub inside : (b : Bridge) (i : ℕ) → Contains bs b → OwnsPlace t b i → (at ≤ i) × (i < at + n)
-  pub once : (i : ℕ) → at ≤ i → i < at + n → IsOwnedOnce t bs i
+  pub once : (i : ℕ) → at ≤ i → i < at + n → OwnedOnce t bs i
 
 -- a bridge and the bridges of two trees below its hole
 module _ {A : Type 0} (m : ℕ) (t : BTree A) (at n h x y : ℕ) (b : Bridge) (ls rs : List Bridge)

@@ -3,3 +3,4 @@ pub mod Bridges
 pub mod Places
 pub mod Paths
 pub mod Next
+pub mod Numbered

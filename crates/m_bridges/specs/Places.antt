@@ -1,6 +1,5 @@
 -- What a bridge owns, by places.
-use Rattle.std.specs.Prelude.{◌≡◌, ◌⊎◌, ℕ, ◌+◌, ◌-◌, ◌<◌, ◌≤◌, false, Option, Some, None, List}
-use Rattle.std.specs.List.{Contains}
+use Rattle.std.specs.Prelude.{◌≡◌, ◌⊎◌, ℕ, ◌+◌, ◌-◌, ◌<◌, ◌≤◌, false, cond, nat_lt, Option, Some, None, List, slice_get}
 use Rattle.op_laws.specs.Trees.{BTree, size, sub_at, is_leaf}
 use Rattle.m_bridges.specs.Parts.{Part, cut_at}
 use Rattle.m_bridges.specs.declared.bridge.Bridge.{Bridge}
@@ -33,7 +32,25 @@ IsOwnPlace t root (Some h) i = ((root ≤ i) × (i ≤ h)) ⊎ ((h + size (sub_a
 abbrev pub OwnsPlace : {A : Type 0} → BTree A → Bridge → ℕ → Type 0
 OwnsPlace t b i = IsOwnPlace t b.root b.hole i
 
+-- the bridge of this number owns the node at the place
+abbrev pub OwnsByNumber : {A : Type 0} → BTree A → List Bridge → ℕ → ℕ → Type 0
+OwnsByNumber t bs i n = (b : Bridge) × (slice_get bs n ≡ Some b) × OwnsPlace t b i
+
 -- of the bridges exactly one owns the node at the place
 pub record IsOwnedOnce {A : Type 0} (t : BTree A) (bs : List Bridge) (i : ℕ) : Type 0 where
-  pub some : (b : Bridge) × Contains bs b × OwnsPlace t b i
-  pub only : (b c : Bridge) → Contains bs b → Contains bs c → OwnsPlace t b i → OwnsPlace t c i → b ≡ c
+  pub some : (n : ℕ) × OwnsByNumber t bs i n
+  pub only : (n k : ℕ) → OwnsByNumber t bs i n → OwnsByNumber t bs i k → n ≡ k
+
+-- the own place number k, from 0 on, of a bridge with this root and this hole: those behind the hole follow past what is strictly below it
+abbrev pub own_place_from : {A : Type 0} → BTree A → ℕ → Option ℕ → ℕ → ℕ
+own_place_from t root None k = root + k
+own_place_from t root (Some h) k = cond (nat_lt h (root + k)) (root + k + (size (sub_at t h) - 1)) (root + k)
+
+abbrev pub own_place : {A : Type 0} → BTree A → Bridge → ℕ → ℕ
+own_place t b k = own_place_from t b.root b.hole k
+
+-- numbered so, the places of a bridge are those that it owns, in ascending order
+pub record AreNumbered {A : Type 0} (t : BTree A) (b : Bridge) : Type 0 where
+  pub owned : (k : ℕ) → k < b.own → OwnsPlace t b (own_place t b k)
+  pub ascend : (j k : ℕ) → j < k → own_place t b j < own_place t b k
+  pub each : (i : ℕ) → OwnsPlace t b i → (k : ℕ) × (k < b.own) × (own_place t b k ≡ i)

@@ -4,7 +4,7 @@ ghost use Rattle.std.specs.List.{All};
 ghost use Rattle.std.specs.Prelude.{◌≡◌, ℕ, ◌+◌, ◌-◌, ◌*◌, ◌/◌, ◌<◌, ◌≤◌, ◌^◌, ◌↔◌, IsTrue, length, IfOk, cond, nat_lt, ◌&&◌, ◌∷◌, ◌++◌};
 ghost use Rattle.op_laws.specs.Trees.{BTree, size, sub_at};
 ghost use Rattle.m_bridges.specs.Parts.{is_critical, IsCritical};
-ghost use Rattle.m_bridges.specs.Bridges.{bridges, AreFew, IsFull};
+ghost use Rattle.m_bridges.specs.Bridges.{bridges, with_node_above, AreFew, IsFull, RootsAscend};
 ghost use Rattle.m_bridges.specs.Places.{IsBridgeOf, IsOwnedOnce};
 ghost use Rattle.m_bridges.specs.Paths.{AreBridgesByPaths};
 ghost use Rattle.m_bridges.specs.Next.{AreNext, IsNext};
@@ -140,8 +140,10 @@ pub fn split(alloc: Global, tree: &Tree, m: u32) -> Result<Bridges, AllocError>
     ensures places { IfOk result (λ v. All (IsBridgeOf tree.now.tree) v) }
     ensures own { IfOk result (λ v. All (λ b. b.own ≤ m) v) }
     ensures few { IfOk result (λ v. AreFew (size tree.now.tree) m (length v)) }
-    // in order they are the preorder of a full binary tree, whose leaves have no hole
-    ensures full { IfOk result IsFull }
+    ensures above { IfOk result (λ v. All (λ b. with_node_above b ≤ m + 1) v) }
+    // they are the preorder of a binary tree, in which the two below a bridge stand at its hole's children
+    ensures full { IfOk result (IsFull tree.now.tree) }
+    ensures ascend { IfOk result RootsAscend }
     ensures paths { IfOk result (AreBridgesByPaths m tree.now.tree) }
     ensures once { IfOk result (λ v. (i : ℕ) → i < size tree.now.tree → IsOwnedOnce tree.now.tree v i) }
 {

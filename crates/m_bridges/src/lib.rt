@@ -3,6 +3,8 @@
 
 mod bridge;
 mod cutting;
+mod laws;
 
 pub use bridge::{Bridge, Bridges};
 pub use cutting::{critical, split};
+pub use laws::own_places_are_numbered;

@@ -7,7 +7,7 @@ ghost use Rattle.m_bridges.specs.Bridges.{bridges};
 ghost use Rattle.m_bridges.specs.Places.{IsBridgeOf};
 ghost use Rattle.bridge_contract.specs.DownsOf.{DownsOf, down_at};
 ghost use Rattle.bridge_contract.specs.OwnNodes.{depth_at};
-ghost use Rattle.tree_tests.specs.Values.{ComeDown};
+ghost use Rattle.bridge_contract.specs.AtRoots.{ComeDown};
 
 use crate::trees::bridge_of;
 use bin_tree::{Steps, Tree};

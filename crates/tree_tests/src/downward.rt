@@ -3,7 +3,7 @@
 
 ghost use Rattle.std.specs.Prelude.{◌≡◌, ◌≤◌, ◌<◌, length};
 ghost use Rattle.m_bridges.specs.Bridges.{bridges};
-ghost use Rattle.tree_tests.specs.Values.{ComeDown};
+ghost use Rattle.bridge_contract.specs.AtRoots.{ComeDown};
 
 use crate::down::{bridge_down, come_down, led_down, started};
 use crate::trees::{TREES, assert_own, numbers_of, tree_of};

@@ -5,6 +5,8 @@
 #[cfg(test)]
 mod cuts;
 #[cfg(test)]
+mod dispatch;
+#[cfg(test)]
 mod down;
 #[cfg(test)]
 mod downward;

@@ -1,6 +1,6 @@
 //! Trees folded by one part from each of their bridges.
 
-ghost use Rattle.std.specs.Prelude.{◌≡◌, ◌+◌, ◌≤◌, ◌<◌, Some, IfOk, IfSome, length};
+ghost use Rattle.std.specs.Prelude.{◌≡◌, ◌+◌, ◌≤◌, ◌<◌, Some, IfOk, IfSome, length, slice_get};
 ghost use Rattle.op_laws.specs.Laws.{IsElementOf};
 ghost use Rattle.op_laws.specs.Trees.{size, sub_at};
 ghost use Rattle.op_laws.specs.TreeFolds.{fold_tree};
@@ -9,11 +9,11 @@ ghost use Rattle.m_bridges.specs.Places.{IsBridgeOf, part_at};
 ghost use Rattle.bridge_contract.specs.Summaries.{Sums};
 ghost use Rattle.bridge_contract.specs.SumsOf.{SumsOf};
 ghost use Rattle.bridge_contract.specs.OwnNodes.{AreBelow};
-ghost use Rattle.tree_tests.specs.Values.{AreFolds};
+ghost use Rattle.bridge_contract.specs.AtRoots.{AreFolds, ArePairs};
 
 use crate::trees::bridge_of;
 use bin_tree::{Steps, Tree};
-use bridge_contract::{Summary, contract, join_up};
+use bridge_contract::{Summary, contract, join_below, join_up, summaries_join};
 use m_bridges::Bridge;
 use op_laws::{MAX_ELEMENTS, TreeOp, Tup};
 use std::alloc::{AllocError, Global};
@@ -80,70 +80,46 @@ pub(crate) fn bridge_up<K: TreeOp>(
     (bridge_of(tree, m, cut, i), values[i])
 }
 
-// The value of the subtree at a place, where a bridge has its root there.
-fn value_at<K: TreeOp>(
+/// The values below each bridge's hole, from these parts.
+pub(crate) fn pairs<K: TreeOp>(
+    alloc: Global,
     op: &K,
     tree: &Tree,
-    m: u32,
-    cut: &[Bridge],
-    values: &[K::V],
-    root: u32,
-) -> Option<K::V>
-    requires some { 1 ≤ m }
-    requires cut { cut.now ≡ bridges m 0 tree.now.tree }
-    requires values { AreFolds (K.upward op.now) tree.now.tree cut.now values.now }
-    ensures { IfSome result (λ v. v ≡ fold_tree (K.upward op.now) (sub_at tree.now.tree root)) }
+    _m: u32,
+    _cut: &[Bridge],
+    parts: &[Summary<K::V, K::G>],
+) -> Result<Vec<Option<(K::V, K::V)>>, AllocError>
+    requires some { 1 ≤ _m }
+    requires takes { K.takes op.now tree.now.ty }
+    requires cut { _cut.now ≡ bridges _m 0 tree.now.tree }
+    requires parts { SumsOf (K.upward op.now) (IsElementOf (K.takes op.now)) (K.fits op.now) (K.fits_hole op.now) tree.now.tree _cut.now parts.now }
+    ensures { IfOk result (λ v. ArePairs (K.upward op.now) tree.now.tree _cut.now v.items) }
 {
-    for i in 0..cut.len() {
-        let (bridge, value) = bridge_up(op, tree, m, cut, values, i);
-        if bridge.root == root {
-            return Some(value);
-        }
-    }
-    None
+    tree.admitted();
+    let _nodes = tree.len();
+    summaries_join(op);
+    let pairs = join_below(alloc, op, parts)?;
+    Ok(pairs)
 }
 
-/// The values of the two subtrees of a bridge's hole; the inner nothing where it has none.
-pub(crate) fn below<K: TreeOp>(
-    op: &K,
+/// A bridge with the values below its hole.
+pub(crate) fn bridge_below<K: TreeOp>(
+    _op: &K,
     tree: &Tree,
     m: u32,
     cut: &[Bridge],
-    values: &[K::V],
-    bridge: &Bridge,
-) -> Option<Option<(K::V, K::V)>>
+    pairs: &[Option<(K::V, K::V)>],
+    i: usize,
+) -> (Bridge, Option<(K::V, K::V)>)
     requires some { 1 ≤ m }
+    requires within { i < length cut.now }
     requires cut { cut.now ≡ bridges m 0 tree.now.tree }
-    requires values { AreFolds (K.upward op.now) tree.now.tree cut.now values.now }
-    ensures { IfSome result (λ b. AreBelow (K.upward op.now) tree.now.tree bridge.now.hole b) }
+    requires pairs { ArePairs (K.upward _op.now) tree.now.tree cut.now pairs.now }
+    ensures same { slice_get cut.now i ≡ Some result.0 }
+    ensures bridge { IsBridgeOf tree.now.tree result.0 }
+    ensures below { AreBelow (K.upward _op.now) tree.now.tree result.0.hole result.1 }
 {
-    match bridge.hole {
-        None => Some(None),
-        Some(hole) => below_hole(op, tree, m, cut, values, hole),
-    }
-}
-
-fn below_hole<K: TreeOp>(
-    op: &K,
-    tree: &Tree,
-    m: u32,
-    cut: &[Bridge],
-    values: &[K::V],
-    hole: u32,
-) -> Option<Option<(K::V, K::V)>>
-    requires some { 1 ≤ m }
-    requires cut { cut.now ≡ bridges m 0 tree.now.tree }
-    requires values { AreFolds (K.upward op.now) tree.now.tree cut.now values.now }
-    ensures { IfSome result (λ b. AreBelow (K.upward op.now) tree.now.tree (Some hole) b) }
-{
-    if hole >= tree.len() - 1 {
-        return None;
-    }
-    let left = hole + 1;
-    let right = left + tree.size(left);
-    let l = value_at(op, tree, m, cut, values, left)?;
-    let r = value_at(op, tree, m, cut, values, right)?;
-    Some(Some((l, r)))
+    (bridge_of(tree, m, cut, i), pairs[i])
 }
 
 /// The result at a place.

@@ -3,10 +3,12 @@
 
 ghost use Rattle.std.specs.Prelude.{◌≡◌, ◌≤◌, ◌<◌, length};
 ghost use Rattle.m_bridges.specs.Bridges.{bridges};
-ghost use Rattle.tree_tests.specs.Values.{AreFolds};
+ghost use Rattle.bridge_contract.specs.AtRoots.{AreFolds, ArePairs};
 
 use crate::trees::{TREES, assert_own, bridge_of, numbers_of, tree_of};
-use crate::up::{below, bridge_up, contracted, finished, joined, open_node, over_both, three};
+use crate::up::{
+    bridge_below, bridge_up, contracted, finished, joined, open_node, over_both, pairs, three,
+};
 use bin_tree::{Steps, Tree};
 use bridge_contract::{contract, expand_up};
 use m_bridges::{Bridge, split};
@@ -18,10 +20,9 @@ use std::sync::ledger::{Blank, Ledger};
 use std::test::Fail;
 use tree_aux::{BestSub, ExprOp, Heavy, RHeavy, RMax, RMin, RRing, RSum, TMax, TMin, TSum};
 
-// The value at a bridge's root, and those at its own nodes.
-fn assert_bridge<K: TreeOp>(
+// The value at a bridge's root.
+fn assert_root<K: TreeOp>(
     rt: &impl Abort,
-    alloc: Global,
     op: &K,
     tree: &Tree,
     m: u32,
@@ -29,7 +30,7 @@ fn assert_bridge<K: TreeOp>(
     values: &[K::V],
     i: usize,
     wanted: &[i128],
-) -> Result<(), Fail>
+)
     requires some { 1 ≤ m }
     requires takes { K.takes op.now tree.now.ty }
     requires within { i < length cut.now }
@@ -45,7 +46,27 @@ fn assert_bridge<K: TreeOp>(
         Tup::one(wanted[bridge.root as usize]),
         "the root of {bridge:?} by {m}"
     );
-    let below = below(op, tree, m, cut, values, &bridge).expect(rt, "values below the hole");
+}
+
+// The values at a bridge's own nodes.
+fn assert_filled<K: TreeOp>(
+    rt: &impl Abort,
+    alloc: Global,
+    op: &K,
+    tree: &Tree,
+    m: u32,
+    cut: &[Bridge],
+    pairs: &[Option<(K::V, K::V)>],
+    i: usize,
+    wanted: &[i128],
+) -> Result<(), Fail>
+    requires some { 1 ≤ m }
+    requires takes { K.takes op.now tree.now.ty }
+    requires within { i < length cut.now }
+    requires cut { cut.now ≡ bridges m 0 tree.now.tree }
+    requires pairs { ArePairs (K.upward op.now) tree.now.tree cut.now pairs.now }
+{
+    let (bridge, below) = bridge_below(op, tree, m, cut, pairs, i);
     let filled = expand_up(alloc, op, tree, &bridge, below)?;
     assert_own(rt, tree, &bridge, &filled, wanted);
     Ok(())
@@ -72,8 +93,10 @@ fn up_by<K: TreeOp, L: Ledger>(
     let cut = bridges.as_slice();
     let parts = contracted(alloc, op, tree, m, cut, &mut steps)?;
     let values = joined(alloc, op, tree, m, cut, &parts)?;
+    let pairs = pairs(alloc, op, tree, m, cut, &parts)?;
     for i in 0..cut.len() {
-        assert_bridge(rt, alloc, op, tree, m, cut, &values, i, wanted)?;
+        assert_root(rt, op, tree, m, cut, &values, i, wanted);
+        assert_filled(rt, alloc, op, tree, m, cut, &pairs, i, wanted)?;
     }
     Ok(())
 }

@@ -7,6 +7,7 @@ use Rattle.m_bridges.specs.Places.{part_at}
 use Rattle.bridge_contract.specs.Stacked.{SumsEach}
 use Rattle.bridge_contract.proofs.CutLemmas.{elements_of}
 use Rattle.bridge_contract.proofs.StackLemmas.{ready, put, fronts_of, fit_of, takes_of, ends_of, begins, some_left, last_is}
+use Rattle.bridge_contract.proofs.AllBridgesLemmas.{whole_sum}
 use Rattle.bridge_contract.proofs.contraction.contract.Goals as goal
 
 pub loop-k-init : goal.loop-k-init
@@ -60,3 +61,8 @@ returns-clause-sums g c =
     let op = c.args.op.now in
     last_is (g.K.TreeOp.upward op) (IsElementOf (g.K.TreeOp.takes op)) (g.K.TreeOp.fits op) (g.K.TreeOp.fits_hole op) (laws_of (g.met.K.TreeOp.upward_laws op)) (part_at c.args.tree.now.tree c.args.bridge.now) c.loop-k.k c.loop-k.stack.items
     c.taken.new.stack.items c.taken.result (omega arith) c.loop-k.invariant.sums c.taken.ensures
+
+pub returns-clause-whole : goal.returns-clause-whole
+returns-clause-whole g c =
+    let op = c.args.op.now in
+    λ none. whole_sum (g.K.TreeOp.upward op) (IsElementOf (g.K.TreeOp.takes op)) (g.K.TreeOp.fits op) (g.K.TreeOp.fits_hole op) c.args.tree.now.tree c.args.bridge.now c.taken.result c.requires.bridge none (returns-clause-sums g c)

@@ -13,6 +13,7 @@ use Rattle.bridge_contract.proofs.Stacks.{pending_end}
 use Rattle.bridge_contract.proofs.CutLemmas.{elements_of}
 use Rattle.bridge_contract.proofs.DownLaws.{down_laws_of}
 use Rattle.bridge_contract.proofs.PassLemmas.{depth_small, own_within, OwnNodes, own_nodes, front_at, takes_at, is_some, on_top, passes, starts, ends}
+use Rattle.bridge_contract.proofs.OwnLemmas.{down_entry}
 use Rattle.bridge_contract.proofs.filling_down.expand_down.Goals as goal
 
 pub loop-k-init : goal.loop-k-init
@@ -113,3 +114,8 @@ returns-clause-items g c =
     let own_is = own.own_is in
     let at_end : c.loop-k.k ≡ own_of (part_at t b) = omega arith in
     ends (g.D.DownOp.downward op) (IsElementOf (g.D.DownOp.takes op)) (g.D.DownOp.fits op) (g.D.DownOp.fits_way op) (down_laws_of (g.met.D.DownOp.downward_laws op)) (g.D.DownOp.finished op) (size t + 1) (pending (part_at t b) c.loop-k.k) _ c.loop-k.stack.items c.loop-k.out.items (ap (pending (part_at t b)) at_end ∙ pending_end (part_at t b)) c.loop-k.invariant.passing
+
+pub returns-clause-each : goal.returns-clause-each
+returns-clause-each g c =
+    let op = c.args.op.now in
+    λ top start j within. down_entry (g.D.DownOp.downward op) (g.D.DownOp.finished op) c.args.tree.now.tree c.args.bridge.now top c.args.c c.loop-k.out.items j c.requires.bridge (returns-clause-items g c) start within

@@ -12,6 +12,8 @@ use Rattle.bridge_contract.proofs.CutLemmas.{elements_of}
 use Rattle.bridge_contract.proofs.StackLemmas.{pending_each}
 use Rattle.bridge_contract.proofs.PassLemmas.{OwnNodes, own_nodes, front_at, takes_at}
 use Rattle.bridge_contract.proofs.StandLemmas.{AreLight, hanging, IsHanging, light_in, weighed_in, can_stand, stands, stands_none, stands_all, stand_fits}
+use Rattle.op_laws.specs.TreeFolds.{fold_tree}
+use Rattle.bridge_contract.proofs.OwnLemmas.{sub_entry}
 use Rattle.bridge_contract.proofs.filling_up.expand_up.Goals as goal
 
 pub loop-k-init : goal.loop-k-init
@@ -136,3 +138,8 @@ returns-clause-items g c =
     let own = own_nodes (IsElementOf (g.K.TreeOp.takes op)) t b c.requires.bridge few each in
     let own_few = own.few in let own_within = own.within in
     stands_all (g.K.TreeOp.upward op) (IsElementOf (g.K.TreeOp.takes op)) (g.K.TreeOp.fits op) (g.K.TreeOp.fits_hole op) (laws_of (g.met.K.TreeOp.upward_laws op)) (g.K.TreeOp.finished op) (left_below t b.hole) (right_below t b.hole) (part_at t b) c.loop-k.k c.loop-k.stack.items c.loop-k.out.items c.reverse.new.self.items (omega arith) c.loop-k.invariant.standing c.reverse.ensures.items
+
+pub returns-clause-each : goal.returns-clause-each
+returns-clause-each g c =
+    let op = c.args.op.now in
+    λ j within. sub_entry (λ s. g.K.TreeOp.finished op (fold_tree (g.K.TreeOp.upward op) s)) c.args.tree.now.tree c.args.bridge.now c.reverse.new.self.items j c.requires.bridge (returns-clause-items g c) within

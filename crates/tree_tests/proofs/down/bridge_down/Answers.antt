@@ -4,8 +4,8 @@ use Rattle.op_laws.specs.Laws.{IsElementOf}
 use Rattle.op_laws.specs.Trees.{size}
 use Rattle.bridge_contract.proofs.CutLemmas.{elements_of}
 use Rattle.bridge_contract.proofs.DownLaws.{down_laws_of}
-use Rattle.tree_tests.proofs.ValueLemmas.{made_at, made_length}
-use Rattle.tree_tests.proofs.DownLemmas.{value_at, value_fits}
+use Rattle.bridge_contract.proofs.AtRootsLemmas.{made_at, made_length}
+use Rattle.bridge_contract.proofs.AtRootsDownLemmas.{value_at, value_fits}
 use Rattle.tree_tests.proofs.down.bridge_down.Goals as goal
 
 pub bounds-values-i : goal.bounds-values-i

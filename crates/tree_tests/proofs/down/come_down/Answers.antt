@@ -3,7 +3,7 @@ use Rattle.op_laws.specs.declared.TheConstants.{MAX_ELEMENTS}
 use Rattle.op_laws.specs.Laws.{IsElementOf}
 use Rattle.op_laws.specs.Trees.{size}
 use Rattle.bridge_contract.proofs.DownLaws.{down_laws_of}
-use Rattle.tree_tests.proofs.DownLemmas.{cut_may_fall, values_are}
+use Rattle.bridge_contract.proofs.AtRootsDownLemmas.{cut_may_fall, values_are}
 use Rattle.tree_tests.proofs.down.come_down.Goals as goal
 
 pub join_down-requires-clause-parts : goal.join_down-requires-clause-parts

@@ -1,7 +1,7 @@
 use Rattle.std.proofs.Common.{◌≡◌, ◌+◌, ◌<◌, ◌++◌, ◌∷◌, [], sym, ◌∙◌, ap, arith, length, take, get_or, subst, None}
 use Rattle.std.proofs.lemmas.List.{take_more}
 use Rattle.bridge_contract.proofs.WholeLemmas.{all_of}
-use Rattle.tree_tests.proofs.DownLemmas.{downs_push}
+use Rattle.bridge_contract.proofs.AtRootsDownLemmas.{downs_push}
 use Rattle.tree_tests.proofs.down.led_down.Goals as goal
 
 pub contract_down-requires-clause-bridge : goal.contract_down-requires-clause-bridge

@@ -1,4 +1,4 @@
-use Rattle.tree_tests.proofs.ValueLemmas.{bridge_is}
+use Rattle.bridge_contract.proofs.AtRootsLemmas.{bridge_is}
 use Rattle.tree_tests.proofs.trees.bridge_of.Goals as goal
 
 pub returns-clause-bridge : goal.returns-clause-bridge

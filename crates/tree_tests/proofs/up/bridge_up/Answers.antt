@@ -1,5 +1,5 @@
 use Rattle.std.proofs.Common.{◌<◌, ◌∙◌, arith}
-use Rattle.tree_tests.proofs.ValueLemmas.{made_at, made_length, fold_at}
+use Rattle.bridge_contract.proofs.AtRootsLemmas.{made_at, made_length, fold_at}
 use Rattle.tree_tests.proofs.up.bridge_up.Goals as goal
 
 pub bounds-values-i : goal.bounds-values-i

@@ -3,7 +3,7 @@ use Rattle.op_laws.specs.declared.TheConstants.{MAX_ELEMENTS}
 use Rattle.op_laws.specs.Laws.{IsElementOf}
 use Rattle.op_laws.specs.Trees.{size}
 use Rattle.bridge_contract.proofs.CutLemmas.{elements_of}
-use Rattle.tree_tests.proofs.ValueLemmas.{cut_may_join, folds_are}
+use Rattle.bridge_contract.proofs.AtRootsLemmas.{cut_may_join, folds_are}
 use Rattle.tree_tests.proofs.up.joined.Goals as goal
 
 pub join_up-requires : goal.join_up-requires

@@ -15,7 +15,7 @@ use Rattle.bridge_contract.specs.OwnNodes.{depth_at}
 use Rattle.bridge_contract.proofs.DownLaws.{DownLaws}
 use Rattle.bridge_contract.proofs.PassLemmas.{depth_small}
 use Rattle.bridge_contract.proofs.WholeDownLemmas.{may_fall, falls_are}
-use Rattle.tree_tests.specs.Values.{ComeDown}
+use Rattle.bridge_contract.specs.AtRoots.{ComeDown}
 
 module _ {V D : Type 0} (k : Downward (List ℤ) V D) (fits : V → ℕ → Type 0) (fits_way : D → ℕ → Type 0) (t : BTree (List ℤ)) where
   pub downs_push : (bs : List Bridge) (ss : List (DownSummary D)) (b : Bridge) (s : DownSummary D) → DownsOf k fits fits_way t bs ss → LeadsDown k fits fits_way (part_at t b) s

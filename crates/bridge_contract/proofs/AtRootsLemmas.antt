@@ -1,6 +1,6 @@
 -- The values at the roots of bridges.
 use Rattle.op_laws.specs.declared.TheConstants.{MAX_ELEMENTS}
-use Rattle.std.proofs.Common.{◌≡◌, ℕ, ◌<◌, ◌≤◌, ℤ, List, [], ◌∷◌, ◌++◌, length, get_or, map, sym, ◌∙◌, ap, subst, arith, Some}
+use Rattle.std.proofs.Common.{◌≡◌, ℕ, ◌<◌, ◌≤◌, ℤ, List, [], ◌∷◌, ◌++◌, length, get_or, map, sym, ◌∙◌, ap, subst, arith, refl, Option, Some, None}
 use Rattle.std.specs.Prelude.{slice_get}
 use Rattle.std.proofs.lemmas.List.{length-map, get_or-map}
 use Rattle.std.proofs.lemmas.Option.{get_or_from_slice_get}
@@ -11,9 +11,10 @@ use Rattle.m_bridges.specs.Bridges.{bridges}
 use Rattle.m_bridges.specs.Places.{IsBridgeOf}
 use Rattle.bridge_contract.specs.declared.summary.Summary.{Summary}
 use Rattle.bridge_contract.specs.SumsOf.{SumsOf}
-use Rattle.bridge_contract.specs.Bridged.{AreBridged, AreUps}
+use Rattle.bridge_contract.specs.Bridged.{AreBridged, AreUps, AreBelows}
+use Rattle.bridge_contract.specs.OwnNodes.{AreBelow}
 use Rattle.bridge_contract.proofs.WholeLemmas.{all_joined, may_join, all_of}
-use Rattle.tree_tests.specs.Values.{AreFolds}
+use Rattle.bridge_contract.specs.AtRoots.{AreFolds, ArePairs, pair_below}
 
 -- of values that are made of each bridge, the one at a place
 pub made_at : {V : Type 0} (f : Bridge → V) (bs : List Bridge) (vs : List V) (i : ℕ) (b : Bridge) (d : V) → vs ≡ map f bs → i < length bs → slice_get bs i ≡ Some b → get_or vs i d ≡ f b
@@ -36,5 +37,15 @@ module _ {V G : Type 0} (k : Upward (List ℤ) V G) (takes : List ℤ → Type 0
   pub folds_are : (m : ℕ) → 0 < m → size t ≤ MAX_ELEMENTS → Each takes t → (bs : List Bridge) → bs ≡ bridges m 0 t → (ss : List (Summary V G)) (vs : List V)
       → SumsOf k takes fits_v fits_g t bs ss → AreUps k ss vs → AreFolds k t bs vs
   folds_are m p few e bs same ss vs x a =
-      let (y, is, w, f, u, b) = all_joined k takes fits_v fits_g t m p few e ss (subst (λ z. SumsOf k takes fits_v fits_g t z ss) same x) in
+      let (y, is, w, f, u, b, d) = all_joined k takes fits_v fits_g t m p few e ss (subst (λ z. SumsOf k takes fits_v fits_g t z ss) same x) in
       a y is ∙ (b ∙ ap (map (fold_at k t)) (sym same))
+
+  pub pairs_are : (m : ℕ) → 0 < m → size t ≤ MAX_ELEMENTS → Each takes t → (ss : List (Summary V G)) (os : List (Option (V × V)))
+      → SumsOf k takes fits_v fits_g t (bridges m 0 t) ss → AreBelows k ss os → ArePairs k t (bridges m 0 t) os
+  pairs_are m p few e ss os x a =
+      let (y, is, w, f, u, b, d) = all_joined k takes fits_v fits_g t m p few e ss x in
+      a y is ∙ d
+
+pub pair_fits : {V G : Type 0} (k : Upward (List ℤ) V G) (t : BTree (List ℤ)) (hole : Option ℕ) → AreBelow k t hole (pair_below k t hole)
+pair_fits k t None = refl
+pair_fits k t (Some h) = refl

@@ -1,0 +1,14 @@
+use Rattle.std.proofs.Common.{[], ◌∷◌, inl, inr, refl}
+use Rattle.op_laws.specs.declared.width.Width.TheVariants.{W64, W96, W128}
+use Rattle.tree_names.specs.declared.tree_name.TreeName.TheVariants.{Min}
+use Rattle.tree_catalog.proofs.Dispatch.{up_tree}
+use Rattle.tree_catalog.proofs.tree_operator.min_at.Goals as goal
+
+pub returns-in-W64 : goal.returns-in-W64
+returns-in-W64 c = rw c.in-W64.ensures (up_tree Min (W64 ∷ []) (record { known = inl refl; one = refl }) refl c.new.ensures)
+
+pub returns-in-W96 : goal.returns-in-W96
+returns-in-W96 c = rw c.in-W96.ensures (up_tree Min (W96 ∷ []) (record { known = inr (inl refl); one = refl }) refl c.new-in-W96.ensures)
+
+pub returns-in-W128 : goal.returns-in-W128
+returns-in-W128 c = rw c.in-W128.ensures (up_tree Min (W128 ∷ []) (record { known = inr (inr refl); one = refl }) refl c.new-in-W128.ensures)
