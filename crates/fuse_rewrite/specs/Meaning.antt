@@ -1,15 +1,13 @@
 -- What scripts over lists mean: each line by itself, on whole lists. There is no pipe, block or worker here.
-use Rattle.std.specs.Prelude.{ℕ, ℤ, Bool, true, false, List, [], ◌∷◌, ◌++◌, map, length, reverse, slice_get, bytes_eq, Option, Some, None, option_and_then, unwrap_or, if◌then◌else◌}
-use Rattle.std.specs.List.{filter, flat_map}
+use Rattle.std.specs.Prelude.{ℕ, ℤ, Bool, true, false, List, [], ◌∷◌, ◌++◌, map, length, reverse, slice_get, bytes_eq, Option, Some, None, unwrap_or, if◌then◌else◌}
+use Rattle.std.specs.List.{flat_map}
 use Rattle.op_laws.specs.declared.width.Width.{Width}
 use Rattle.op_laws.specs.declared.width.Width.TheVariants.{W64}
 use Rattle.op_laws.specs.Elements.{Elements, singles}
 use Rattle.op_catalog.specs.Catalog.{reduction_of}
 use Rattle.scalar_expr.specs.Expr.{Expr}
 use Rattle.scalar_expr.specs.Values.{values_of}
-use Rattle.list_fusion.specs.Heads.{zipped, iota}
-use Rattle.list_fusion.specs.Stages.{is_kept}
-use Rattle.list_fusion.specs.Scans.{prefixes, suffixes}
+use Rattle.op_laws.specs.Lists.{zipped, iota, filtered, scanned, scanned_back}
 use Rattle.data_text.specs.declared.value.Value.{Value}
 use Rattle.data_text.specs.declared.value.Value.TheVariants as value
 use Rattle.data_text.specs.declared.value.Named.{Named}
@@ -36,13 +34,13 @@ element_made (o ∷ os) x = reduced_by o x.ty x.items
 -- the elements of the list that a skeleton makes of a list x, and of others
 abbrev pub items_made : Head → List (List Expr) → List Op → Elements → List Elements → List (List ℤ)
 items_made head.Map (f ∷ fs) os x ys = map (values_of f) x.items
-items_made head.Filter (f ∷ fs) os x ys = filter (is_kept f) x.items
+items_made head.Filter (f ∷ fs) os x ys = filtered (values_of f) x.items
 items_made head.Zip fs os x (y ∷ ys) = zipped x.items y.items
 items_made head.Rev fs os x ys = reverse x.items
 items_made head.Iota fs os x ys = iota (length x.items)
 items_made head.Plain fs os x ys = x.items
-items_made head.Scan fs (o ∷ os) x ys = map (reduced_by o x.ty) (prefixes x.items)
-items_made head.Scanr fs (o ∷ os) x ys = map (reduced_by o x.ty) (suffixes x.items)
+items_made head.Scan fs (o ∷ os) x ys = scanned (reduced_by o x.ty) x.items
+items_made head.Scanr fs (o ∷ os) x ys = scanned_back (reduced_by o x.ty) x.items
 items_made h fs os x ys = []
 
 abbrev pub makes_element : Head → Bool

@@ -15,7 +15,7 @@ use Rattle.op_laws.specs.declared.width.Width.{Width}
 use Rattle.op_laws.specs.declared.width.Width.TheVariants.{W64, W96, W128}
 use Rattle.scalar_expr.specs.Columns.{is_w64}
 use Rattle.list_fusion.specs.declared.stage.Stage.{Stage}
-use Rattle.list_fusion.specs.Heads.{zipped, iota}
+use Rattle.op_laws.specs.Lists.{zipped, iota}
 use Rattle.list_fusion.proofs.HeadLemmas.{get_or-zipped, get_or-iota}
 use Rattle.list_fusion.specs.Stages.{is_kept, applied, type_after, Takes}
 use Rattle.list_fusion.specs.Pipes.{turned}

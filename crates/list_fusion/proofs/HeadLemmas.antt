@@ -6,7 +6,7 @@ use Rattle.std.proofs.lemmas.Slice.Zip.{length-zip}
 use Rattle.std.proofs.lemmas.List.FromFn.{length-map-range_with_len, get_or-map-range_with_len}
 use Rattle.op_laws.specs.declared.width.Width.{Width}
 use Rattle.op_laws.specs.Admits.{Admits}
-use Rattle.list_fusion.specs.Heads.{zipped, iota}
+use Rattle.op_laws.specs.Lists.{zipped, iota}
 
 pub length-zipped : (xs ys : List (List ℤ)) → length xs ≡ length ys → length (zipped xs ys) ≡ length xs
 length-zipped xs ys same = length-map (zip xs ys) (λ p. p.0 ++ p.1) ∙ length-zip xs ys ∙ omega arith

@@ -11,7 +11,8 @@ use Rattle.op_laws.specs.Admits.{Admits}
 use Rattle.op_laws.specs.Laws.{LiftLaws, CombineLaws}
 use Rattle.op_laws.specs.Folds.{step, fold_of, beside, with_next, with_front}
 use Rattle.op_laws.proofs.FoldLemmas.{fold_of-push, fold_of-front, fits-fold_of}
-use Rattle.list_fusion.specs.Scans.{prefixes, suffixes, result_of, scan_after, scanr_before}
+use Rattle.op_laws.specs.Lists.{prefixes, suffixes}
+use Rattle.list_fusion.specs.Scans.{result_of, scan_after, scanr_before}
 use Rattle.list_fusion.specs.Held.{held_after, held_in_front, told_of, held_after_all, held_through, scanned}
 
 module _ {X : Type 0} where

@@ -8,7 +8,7 @@ use Rattle.scalar_expr.specs.declared.pair.Pair.TheVariants.{Mul, Less}
 use Rattle.scalar_expr.specs.Expr.{lit, part, two}
 use Rattle.list_fusion.specs.declared.stage.Stage.{Stage}
 use Rattle.list_fusion.specs.declared.stage.Stage.TheVariants.{Map, Keep}
-use Rattle.list_fusion.specs.Heads.{iota}
+use Rattle.op_laws.specs.Lists.{iota}
 use Rattle.list_fusion.specs.Stages.{staged, type_along}
 
 -- the head's elements, the stages that they go through in order, and whether the whole is turned round

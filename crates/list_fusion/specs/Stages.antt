@@ -1,8 +1,8 @@
 -- What stages make of a list.
-use Rattle.std.specs.Prelude.{◌≡◌, ℤ, pos, Bool, not, List, [], ◌∷◌, map, length, slice_index_or}
+use Rattle.std.specs.Prelude.{◌≡◌, ℤ, Bool, List, [], ◌∷◌, map, length}
 use Rattle.std.specs.List.{filter}
-use Rattle.std.specs.Ordering.{int_eq}
 use Rattle.op_laws.specs.declared.width.Width.{Width}
+use Rattle.op_laws.specs.Lists.{is_true}
 use Rattle.scalar_expr.specs.Expr.{Expr}
 use Rattle.scalar_expr.specs.Values.{values_of}
 use Rattle.list_fusion.specs.declared.stage.Stage.{Stage}
@@ -10,7 +10,7 @@ use Rattle.list_fusion.specs.declared.stage.Stage.TheVariants.{Map, Keep}
 
 -- the function isn't 0 on the element
 abbrev pub is_kept : List Expr → List ℤ → Bool
-is_kept scalars e = not (int_eq (slice_index_or (values_of scalars e) 0 (pos 0)) (pos 0))
+is_kept scalars e = is_true (values_of scalars e)
 
 -- one stage
 abbrev pub applied : Stage → List (List ℤ) → List (List ℤ)

@@ -17,7 +17,8 @@ use Rattle.list_skel.specs.Blocks.{cut_at, piece, outer_places}
 use Rattle.list_skel.specs.Given.{IsBlockFold, outer, all_items}
 use Rattle.list_skel.specs.Skeletons.{fold_result, either_scan}
 use Rattle.list_skel.proofs.CutLemmas.{block-none, cut-ordered, cut-within, cut-zero, cut-last, front-more, back-more, All-part, parts-front, parts-back}
-use Rattle.list_fusion.specs.Scans.{prefixes, suffixes, result_of, scan_after, scanr_before, scan_beside}
+use Rattle.op_laws.specs.Lists.{prefixes, suffixes}
+use Rattle.list_fusion.specs.Scans.{result_of, scan_after, scanr_before, scan_beside}
 
 pub length-prefixes : {X : Type 0} (xs : List X) → length (prefixes xs) ≡ length xs
 length-prefixes [] = refl

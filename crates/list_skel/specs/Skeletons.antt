@@ -1,7 +1,8 @@
 -- The skeletons on whole lists, for any lawful operator.
-use Rattle.std.specs.Prelude.{◌≡◌, ℤ, pos, ◌+ℤ◌, Bool, if◌then◌else◌, List, [], ◌∷◌, map, refl}
+use Rattle.std.specs.Prelude.{◌≡◌, ℤ, pos, ◌+ℤ◌, Bool, if◌then◌else◌, List, [], ◌∷◌, refl}
 use Rattle.op_laws.specs.Folds.{fold_of, fold_or}
-use Rattle.list_fusion.specs.Scans.{prefixes, suffixes, result_of}
+use Rattle.op_laws.specs.Lists.{scanned, scanned_back}
+use Rattle.list_fusion.specs.Scans.{result_of}
 
 -- the element that the fold of a whole list stands for
 abbrev pub reduce_of : {C : Type 0} → (C → List ℤ) → C → (List ℤ → C) → (C → C → C) → List (List ℤ) → List ℤ
@@ -14,11 +15,11 @@ module _ {C : Type 0} (finished : C → List ℤ) (lifted : List ℤ → C) (com
 
   -- of each prefix
   abbrev pub scan_of : List (List ℤ) → List (List ℤ)
-  scan_of es = map fold_result (prefixes es)
+  scan_of es = scanned fold_result es
 
   -- of each suffix
   abbrev pub scanr_of : List (List ℤ) → List (List ℤ)
-  scanr_of es = map fold_result (suffixes es)
+  scanr_of es = scanned_back fold_result es
 
   -- one of the two
   abbrev pub either_scan : Bool → List (List ℤ) → List (List ℤ)

@@ -1,25 +1,18 @@
--- Folds of lists that are cut, and of blocks, prefixes and suffixes. Crates above cite these.
-use Rattle.std.proofs.Common.{◌≡◌, ℕ, suc, ◌+◌, ◌<◌, ◌≤◌, ℤ, List, [], ◌∷◌, ◌++◌, Some, None, length, get_or, take, drop, refl, ap, arith, add-one, add-zero, unwrap_or, sym, ◌∙◌, IfSome}
+-- Folds of lists of elements that are cut, and of blocks, prefixes and suffixes: the case of `WeighedFolds` where each weighs 1. Crates above cite these.
+use Rattle.std.proofs.Common.{◌≡◌, ℕ, suc, ◌+◌, ◌<◌, ◌≤◌, ℤ, List, [], ◌∷◌, ◌++◌, Some, None, length, get_or, take, drop, refl, ap, arith, add-one, unwrap_or, sym, ◌∙◌, subst, IfSome}
 use Rattle.std.specs.List.{fold, flat_map, All}
 use Rattle.std.proofs.Math.Seq.{take-add, drop-cons}
-use Rattle.std.proofs.lemmas.List.{take_more, append-nil, append_assoc, length-append, length-take, length-drop}
-use Rattle.std.proofs.lemmas.List.Sums.{fold_push, fold-append}
-use Rattle.std.proofs.lemmas.List.Elements.{All-head, All-tail, All-cons, All-nil, All-take, All-drop}
+use Rattle.std.proofs.lemmas.List.{take_more, append-nil, length-append, length-take, length-drop}
+use Rattle.std.proofs.lemmas.List.Sums.{fold_push}
+use Rattle.std.proofs.lemmas.List.Elements.{All-take, All-drop, All-weaker}
 use Rattle.op_laws.specs.declared.TheConstants.{MAX_ELEMENTS}
 use Rattle.op_laws.specs.declared.width.Width.{Width}
 use Rattle.op_laws.specs.Admits.{Admits}
 use Rattle.op_laws.specs.Laws.{LiftLaws, CombineLaws, UnitLaws}
 use Rattle.op_laws.specs.Folds.{step, fold_of, fold_or, beside, with_next, with_front}
-
--- what holds of each element holds of each in front of a cut
-pub All-front : {X : Type 0} (P : X → Type 0) (xs ys : List X) → All P (xs ++ ys) → All P xs
-All-front P [] ys all = All-nil P
-All-front P (x ∷ xs) ys all = All-cons P x xs (All-head P x (xs ++ ys) all) (All-front P xs ys (All-tail P x (xs ++ ys) all))
-
--- and of each behind it
-pub All-back : {X : Type 0} (P : X → Type 0) (xs ys : List X) → All P (xs ++ ys) → All P ys
-All-back P [] ys all = all
-All-back P (x ∷ xs) ys all = All-back P xs ys (All-tail P x (xs ++ ys) all)
+use Rattle.op_laws.proofs.WeighedFolds as weighed
+pub use Rattle.op_laws.proofs.WeighedFolds.{All-front, All-back}
+use Rattle.op_laws.proofs.WeighedFolds.{one, weight-ones}
 
 -- with no law
 module _ {C : Type 0} (lifted : List ℤ → C) (combined : C → C → C) where
@@ -35,59 +28,36 @@ module _ {C : Type 0} (lifted : List ℤ → C) (combined : C → C → C) where
 -- with the law on cuts, for elements of a type that the operator takes
 module _ {C : Type 0} {takes : List Width → Type 0} {gives : List Width → List Width} {lifted : List ℤ → C} {finished : C → List ℤ} {fits : C → ℕ → Type 0} {combined : C → C → C}
     (lifts : LiftLaws takes gives lifted finished fits) (laws : CombineLaws combined fits) (ty : List Width) (taken : takes ty) where
-  fits_from : (a : C) (n : ℕ) (es : List (List ℤ)) → n + length es ≤ MAX_ELEMENTS → fits a n → All (Admits ty) es → fits (fold (step lifted combined) a es) (n + length es)
-  fits_from a n [] few fit all = rw add-zero fit
-  fits_from a n (e ∷ es) few fit all =
-      let one = lifts.lifted_fits ty e taken (All-head (Admits ty) e es all) in
-      let more = laws.combined_fits a n (lifted e) 1 (omega arith) fit one in
-      let weight : (n + 1) + length es ≡ n + suc (length es) = omega arith in
-      rw (← weight) (fits_from (combined a (lifted e)) (n + 1) es (omega arith) more (All-tail (Admits ty) e es all))
+  abbrev Fits : List ℤ → Type 0
+  Fits e = fits (lifted e) 1
+
+  each_fits : (es : List (List ℤ)) → All (Admits ty) es → All Fits es
+  each_fits es all = All-weaker (Admits ty) Fits (λ e. lifts.lifted_fits ty e taken) es all
 
   -- the fold of a list fits its length
   pub fits-fold_of : (es : List (List ℤ)) → length es ≤ MAX_ELEMENTS → All (Admits ty) es → IfSome (fold_of lifted combined es) (λ c. fits c (length es))
-  fits-fold_of [] few all = tt
-  fits-fold_of (e ∷ es) few all =
-      let one = lifts.lifted_fits ty e taken (All-head (Admits ty) e es all) in
-      let weight : 1 + length es ≡ suc (length es) = omega arith in
-      rw (← weight) (fits_from (lifted e) 1 es (omega arith) one (All-tail (Admits ty) e es all))
+  fits-fold_of es few all =
+      let long = weight-ones es in
+      subst (λ n. IfSome (fold_of lifted combined es) (λ c. fits c n)) long (weighed.fits-fold_of laws lifted one es (omega arith) (each_fits es all))
 
   -- a value in front of a fold may be combined with its first value instead
   pub combined-fold : (a : C) (m : ℕ) (b : C) (n : ℕ) (es : List (List ℤ)) → m + n + length es ≤ MAX_ELEMENTS → fits a m → fits b n → All (Admits ty) es
       → combined a (fold (step lifted combined) b es) ≡ fold (step lifted combined) (combined a b) es
-  combined-fold a m b n [] few fa fb all = refl
-  combined-fold a m b n (e ∷ es) few fa fb all =
-      let one = lifts.lifted_fits ty e taken (All-head (Admits ty) e es all) in
-      let more = laws.combined_fits b n (lifted e) 1 (omega arith) fb one in
-      combined-fold a m (combined b (lifted e)) (n + 1) es (omega arith) fa more (All-tail (Admits ty) e es all)
-      ∙ ap (λ c. fold (step lifted combined) c es) (sym (laws.associative a m b n (lifted e) 1 (omega arith) fa fb one))
+  combined-fold a m b n es few fa fb all = let long = weight-ones es in weighed.combined-fold laws lifted one a m b n es (omega arith) fa fb (each_fits es all)
 
   -- a list may be cut anywhere
   pub fold_of-append : (xs ys : List (List ℤ)) → length xs + length ys ≤ MAX_ELEMENTS → All (Admits ty) (xs ++ ys)
       → fold_of lifted combined (xs ++ ys) ≡ beside combined (fold_of lifted combined xs) (fold_of lifted combined ys)
-  fold_of-append [] ys few all = refl
-  fold_of-append (x ∷ xs) [] few all = ap (fold_of lifted combined) (append-nil (x ∷ xs))
-  fold_of-append (x ∷ xs) (y ∷ ys) few all =
-      let front = All-front (Admits ty) (x ∷ xs) (y ∷ ys) all in
-      let back = All-back (Admits ty) (x ∷ xs) (y ∷ ys) all in
-      let first = lifts.lifted_fits ty x taken (All-head (Admits ty) x xs front) in
-      let next = lifts.lifted_fits ty y taken (All-head (Admits ty) y ys back) in
-      let whole = fits_from (lifted x) 1 xs (omega arith) first (All-tail (Admits ty) x xs front) in
-      ap Some (fold-append (step lifted combined) (lifted x) xs (y ∷ ys)
-      ∙ sym (combined-fold (fold (step lifted combined) (lifted x) xs) (1 + length xs) (lifted y) 1 ys (omega arith) whole next (All-tail (Admits ty) y ys back)))
+  fold_of-append xs ys few all =
+      let front = weight-ones xs in let back = weight-ones ys in
+      weighed.fold_of-append laws lifted one xs ys (omega arith) (each_fits (xs ++ ys) all)
 
   -- the elements of places, after some elements: those of a place may be none
   pub fold_of-places : {P : Type 0} (at : P → List (List ℤ)) (front : List (List ℤ)) (ps : List P) → length front + length (flat_map at ps) ≤ MAX_ELEMENTS → All (Admits ty) (front ++ flat_map at ps)
       → fold_of lifted combined (front ++ flat_map at ps) ≡ fold (λ held p. beside combined held (fold_of lifted combined (at p))) (fold_of lifted combined front) ps
-  fold_of-places at front [] few all = ap (fold_of lifted combined) (append-nil front)
-  fold_of-places {P} at front (p ∷ ps) few all =
-      let regroup : (front ++ at p) ++ flat_map at ps ≡ front ++ (at p ++ flat_map at ps) = append_assoc front (at p) (flat_map at ps) in
-      let whole = rw (← regroup) at all in
-      let longer = length-append front (at p) in
-      let rest = length-append (at p) (flat_map at ps) in
-      let cut = fold_of-append front (at p) (omega arith) (All-front (Admits ty) (front ++ at p) (flat_map at ps) whole) in
-      ap (fold_of lifted combined) (sym regroup)
-      ∙ fold_of-places at (front ++ at p) ps (omega arith) whole
-      ∙ ap (λ held. fold (λ held p. beside combined held (fold_of lifted combined (at p))) held ps) cut
+  fold_of-places at front ps few all =
+      let before = weight-ones front in let behind = weight-ones (flat_map at ps) in
+      weighed.fold_of-places laws lifted one at front ps (omega arith) (each_fits (front ++ flat_map at ps) all)
 
   -- the blocks of a list, of which some may be empty
   pub fold_of-blocks : (bs : List (List (List ℤ))) → length (flat_map (λ b. b) bs) ≤ MAX_ELEMENTS → All (Admits ty) (flat_map (λ b. b) bs)

@@ -6,3 +6,8 @@ pub mod MatrixLemmas
 pub mod FoldLemmas
 pub mod RowEdits
 pub mod TableEdits
+pub mod TreeSkeletonLaws
+pub mod WeighedFolds
+pub mod ChildrenLaws
+pub mod MaybeFolds
+pub mod CutLaws

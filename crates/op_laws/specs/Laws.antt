@@ -26,3 +26,14 @@ pub record UnitLaws {C : Type 0} (nothing : C) (combined : C → C → C) (fits 
   pub nothing_fits : fits nothing 0
   pub left : (a : C) (n : ℕ) → n ≤ MAX_ELEMENTS → fits a n → combined nothing a ≡ a
   pub right : (a : C) (n : ℕ) → n ≤ MAX_ELEMENTS → fits a n → combined a nothing ≡ a
+
+-- the two values may be exchanged
+pub record CommuteLaws {C : Type 0} (combined : C → C → C) (fits : C → ℕ → Type 0) : Type 0 where
+  pub commutative : (a : C) (m : ℕ) (b : C) (n : ℕ) → m + n ≤ MAX_ELEMENTS → fits a m → fits b n → combined a b ≡ combined b a
+
+-- values of the parts of a matrix become one, downwards and across, and of four parts in either order
+pub record AbideLaws {C : Type 0} (down across : C → C → C) (fits : C → ℕ → Type 0) : Type 0 where
+  pub down_laws : CombineLaws down fits
+  pub across_laws : CombineLaws across fits
+  pub abide : (a : C) (k : ℕ) (b : C) (l : ℕ) (c : C) (m : ℕ) (d : C) (n : ℕ) → k + l + m + n ≤ MAX_ELEMENTS → fits a k → fits b l → fits c m → fits d n
+      → down (across a b) (across c d) ≡ across (down a c) (down b d)

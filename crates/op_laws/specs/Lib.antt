@@ -13,3 +13,10 @@ pub mod Roses
 pub mod TreeFolds
 pub mod RoseFolds
 pub mod TreeLaws
+pub mod Lists
+pub mod Tables
+pub mod TreeSkeletons
+pub mod RoseSkeletons
+pub mod Children
+pub mod Cuts
+pub mod Shapes

@@ -5,6 +5,7 @@
 mod column;
 mod columns;
 mod elem_type;
+mod laws;
 mod list;
 mod matrix;
 mod operator;
@@ -13,9 +14,10 @@ mod tup;
 mod width;
 
 pub use elem_type::ElemType;
+pub use laws::{matrices_are_cut, roses_go_by_children, shapes_are_kept};
 pub use list::List;
 pub use matrix::Matrix;
-pub use operator::{Lifted, Monoid, Semi};
+pub use operator::{Abiding, Commutative, Lifted, Monoid, Semi};
 pub use tree_operator::{DownOp, RoseDown, RoseOp, TreeOp};
 pub use tup::Tup;
 pub use width::Width;

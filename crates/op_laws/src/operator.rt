@@ -3,7 +3,7 @@
 ghost use Rattle.std.specs.Prelude.{◌≡◌, ℕ, ◌+◌, ◌≤◌, ◌↔◌, ℤ, IsTrue};
 ghost use Rattle.std.specs.Prelude.{List as Seq};
 ghost use Rattle.op_laws.specs.declared.width.Width.{Width as Kind};
-ghost use Rattle.op_laws.specs.Laws.{IsElementOf, LiftLaws, CombineLaws, UnitLaws};
+ghost use Rattle.op_laws.specs.Laws.{IsElementOf, LiftLaws, CombineLaws, UnitLaws, CommuteLaws, AbideLaws};
 
 use crate::MAX_ELEMENTS;
 use crate::elem_type::ElemType;
@@ -81,4 +81,43 @@ pub trait Monoid: Semi {
         ensures { result ≡ nothing self.now };
 
     ghost unit_laws: { (op : Self) → UnitLaws (nothing op) (Self.combined op) (Self.fits op) };
+}
+
+/// An operator whose operands may be exchanged.
+pub trait Commutative: Semi {
+    ghost commute_laws: { (op : Self) → CommuteLaws (Self.combined op) (Self.fits op) };
+}
+
+/// An operator by which the values of neighbours in a matrix become one, downwards and across,
+/// wherever it is cut:
+///
+/// ```text
+///     a | b
+///     --+--     (a across b) down (c across d) is (a down c) across (b down d)
+///     c | d
+/// ```
+pub trait Abiding: Lifted {
+    // The value of a part, from those of an upper and a lower one.
+    ghost downwards: { Self → Self.C → Self.C → Self.C };
+
+    // The value of a part, from those of a left and a right one.
+    ghost sideways: { Self → Self.C → Self.C → Self.C };
+
+    /// The value of what `a`, of weight `na`, and below it `b`, of weight `nb`, stand for. Its
+    /// weight is `na + nb`.
+    fn down(&self, a: Self::C, na: u32, b: Self::C, nb: u32) -> Self::C
+        requires few { na + nb ≤ MAX_ELEMENTS }
+        requires first { Self.fits self.now a na }
+        requires second { Self.fits self.now b nb }
+        ensures { result ≡ downwards self.now a b };
+
+    /// The value of what `a`, of weight `na`, and to the right of it `b`, of weight `nb`, stand for.
+    /// Its weight is `na + nb`.
+    fn across(&self, a: Self::C, na: u32, b: Self::C, nb: u32) -> Self::C
+        requires few { na + nb ≤ MAX_ELEMENTS }
+        requires first { Self.fits self.now a na }
+        requires second { Self.fits self.now b nb }
+        ensures { result ≡ sideways self.now a b };
+
+    ghost abide_laws: { (op : Self) → AbideLaws (downwards op) (sideways op) (Self.fits op) };
 }

@@ -12,7 +12,7 @@ use Rattle.scalar_expr.specs.Functions.{Function}
 use Rattle.scalar_expr.specs.Values.{values_of}
 use Rattle.list_fusion.specs.declared.stage.Stage.{Stage}
 use Rattle.list_fusion.specs.declared.stage.Stage.TheVariants.{Map, Keep}
-use Rattle.list_fusion.specs.Heads.{zipped, iota}
+use Rattle.op_laws.specs.Lists.{zipped, iota}
 use Rattle.list_fusion.specs.Stages.{type_along, type_after, is_kept}
 use Rattle.list_fusion.specs.Pipes.{Flow, elements, type_of, with_stage}
 use Rattle.data_text.specs.declared.value.Value.TheVariants as value

@@ -6,7 +6,7 @@ use Rattle.op_laws.specs.declared.width.Width.{Width}
 use Rattle.op_laws.specs.Admits.{Admits}
 use Rattle.op_catalog.specs.declared.list_op.ListOp.{ListOp}
 use Rattle.op_catalog.specs.Operators.{IsOperatorOf, IsMonoidOf}
-use Rattle.list_fusion.specs.Scans.{prefixes, suffixes}
+use Rattle.op_laws.specs.Lists.{prefixes, suffixes}
 use Rattle.list_skel.specs.Skeletons.{reduce_of, fold_result, scan_of, scanr_of}
 use Rattle.script_lang.specs.declared.op.Op.TheVariants as op
 use Rattle.fuse_rewrite.specs.Meaning.{reduced_by}

@@ -9,8 +9,7 @@ use Rattle.op_laws.specs.declared.width.Width.TheVariants.{W64}
 use Rattle.op_laws.specs.Elements.{singles}
 use Rattle.data_text.specs.declared.value.Value.TheVariants as value
 use Rattle.data_text.specs.Data.{Section}
-use Rattle.list_fusion.specs.Heads.{zipped, iota}
-use Rattle.list_fusion.specs.Scans.{prefixes, suffixes}
+use Rattle.op_laws.specs.Lists.{zipped, iota, prefixes, suffixes}
 use Rattle.script_lang.specs.declared.kind.Kind.TheVariants as kind
 use Rattle.script_lang.specs.declared.skel.Skel.{Skel}
 use Rattle.script_lang.specs.declared.skel.Skel.TheVariants as skel

@@ -9,9 +9,8 @@ use Rattle.op_catalog.specs.Catalog.{typed_of, is_end}
 use Rattle.scalar_expr.specs.Expr.{Expr}
 use Rattle.scalar_expr.specs.Typing.{typed}
 use Rattle.scalar_expr.specs.Values.{values_of}
-use Rattle.list_fusion.specs.Heads.{zipped, iota}
+use Rattle.op_laws.specs.Lists.{zipped, iota, prefixes, suffixes}
 use Rattle.list_fusion.specs.Stages.{is_kept}
-use Rattle.list_fusion.specs.Scans.{prefixes, suffixes}
 use Rattle.list_fusion.specs.Pipes.{Flow, elements, type_of}
 use Rattle.data_text.specs.declared.value.Value.{Value}
 use Rattle.data_text.specs.declared.value.Value.TheVariants as value

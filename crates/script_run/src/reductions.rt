@@ -6,7 +6,7 @@ ghost use Rattle.op_laws.specs.Admits.{Admits};
 ghost use Rattle.op_catalog.specs.Catalog.{is_end, typed_of, reduction_of};
 ghost use Rattle.op_catalog.specs.Operators.{IsOperatorOf, IsMonoidOf};
 ghost use Rattle.list_fusion.specs.Pipes.{type_of, elements};
-ghost use Rattle.list_fusion.specs.Scans.{prefixes, suffixes};
+ghost use Rattle.op_laws.specs.Lists.{prefixes, suffixes};
 ghost use Rattle.script_lang.specs.declared.op.Op.TheVariants.{Flat};
 ghost use Rattle.fuse_rewrite.specs.Meaning.{reduced_by};
 

@@ -1,5 +1,5 @@
 use Rattle.std.proofs.Common.{◌≡◌, ◌<◌, length, pos, [], ◌∷◌, sym, ◌∙◌, arith, rules}
-use Rattle.list_fusion.specs.Heads.{zipped}
+use Rattle.op_laws.specs.Lists.{zipped}
 use Rattle.list_fusion.proofs.HeadLemmas.{length-zipped, get_or-zipped, length-iota, get_or-iota, Admits-append, length-Admits}
 use Rattle.list_fusion.proofs.head.Head.at.Goals as goal
 
