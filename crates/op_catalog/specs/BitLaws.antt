@@ -7,7 +7,7 @@ use Rattle.std.proofs.lemmas.Nat.Bits.{bit_at-lt, bit_at_and, bit_at_or, bit_at_
 use Rattle.std.proofs.lemmas.Bool.Decides.{nat_tests}
 use Rattle.op_laws.specs.declared.width.Width.TheVariants.{W64}
 use Rattle.op_laws.specs.Widths.{FitsWidth}
-use Rattle.op_laws.specs.Laws.{CombineLaws, UnitLaws}
+use Rattle.op_laws.specs.Laws.{CombineLaws, UnitLaws, CommuteLaws}
 use Rattle.op_catalog.specs.Words.{IsWord}
 use Rattle.op_catalog.specs.Bits.{is_set}
 use Rattle.op_catalog.specs.WordLaws.{FitsSigned-word}
@@ -46,6 +46,7 @@ pub record IsBitwise (op : ℤ → ℤ → ℤ) (nothing : ℤ) (join : Bool →
   pub assoc : (p q r : Bool) → join (join p q) r ≡ join p (join q r)
   pub left : (p : Bool) → join one p ≡ p
   pub right : (p : Bool) → join p one ≡ p
+  pub comm : (p q : Bool) → join p q ≡ join q p
 
 module _ {op : ℤ → ℤ → ℤ} {nothing : ℤ} {join : Bool → Bool → Bool} {one : Bool} (laws : IsBitwise op nothing join one) where
   bitwise_assoc : (a b c : ℤ) → FitsWidth W64 a → FitsWidth W64 b → FitsWidth W64 c → op (op a b) c ≡ op a (op b c)
@@ -70,6 +71,12 @@ module _ {op : ℤ → ℤ → ℤ} {nothing : ℤ} {join : Bool → Bool → Bo
         laws.bits k nothing a laws.nothing_fits f ∙ ap (λ p. join p (is_set k a)) (laws.nothing_bits k within) ∙ laws.left (is_set k a));
     right = λ a n few f. same_words (op a nothing) a (laws.closed a nothing f laws.nothing_fits) f (λ k within.
         laws.bits k a nothing f laws.nothing_fits ∙ ap (join (is_set k a)) (laws.nothing_bits k within) ∙ laws.right (is_set k a));
+  }
+
+  pub bitwise_commute_laws : CommuteLaws op IsWord
+  bitwise_commute_laws = record {
+    commutative = λ a m b n few fa fb. same_words (op a b) (op b a) (laws.closed a b fa fb) (laws.closed b a fb fa) (λ k within.
+        laws.bits k a b fa fb ∙ laws.comm (is_set k a) (is_set k b) ∙ sym (laws.bits k b a fb fa));
   }
 
 -- ---- the three
@@ -101,6 +108,8 @@ and_bits = record {
   assoc = λ p q r. elim p as (λ p. ((p && q) && r) ≡ (p && (q && r))) [ true ↦ refl | false ↦ refl ];
   left = λ p. refl;
   right = λ p. elim p as (λ p. (p && true) ≡ p) [ true ↦ refl | false ↦ refl ];
+  comm = λ p q. elim p as (λ p. (p && q) ≡ (q && p))
+      [ true ↦ elim q as (λ q. q ≡ (q && true)) [ true ↦ refl | false ↦ refl ] | false ↦ elim q as (λ q. false ≡ (q && false)) [ true ↦ refl | false ↦ refl ] ];
 }
 
 pub or_bits : IsBitwise (int_bit_or w64) (pos 0) ◌||◌ false
@@ -115,6 +124,8 @@ or_bits = record {
   assoc = λ p q r. elim p as (λ p. ((p || q) || r) ≡ (p || (q || r))) [ true ↦ refl | false ↦ refl ];
   left = λ p. refl;
   right = λ p. elim p as (λ p. (p || false) ≡ p) [ true ↦ refl | false ↦ refl ];
+  comm = λ p q. elim p as (λ p. (p || q) ≡ (q || p))
+      [ true ↦ elim q as (λ q. true ≡ (q || true)) [ true ↦ refl | false ↦ refl ] | false ↦ elim q as (λ q. q ≡ (q || false)) [ true ↦ refl | false ↦ refl ] ];
 }
 
 pub xor_bits : IsBitwise (int_bit_xor w64) (pos 0) differ false
@@ -130,4 +141,6 @@ xor_bits = record {
       [ true ↦ elim q as (λ q. differ (not q) r ≡ not (differ q r)) [ true ↦ elim r as (λ r. r ≡ not (not r)) [ true ↦ refl | false ↦ refl ] | false ↦ refl ] | false ↦ refl ];
   left = λ p. refl;
   right = λ p. elim p as (λ p. differ p false ≡ p) [ true ↦ refl | false ↦ refl ];
+  comm = λ p q. elim p as (λ p. differ p q ≡ differ q p)
+      [ true ↦ elim q as (λ q. not q ≡ differ q true) [ true ↦ refl | false ↦ refl ] | false ↦ elim q as (λ q. q ≡ differ q false) [ true ↦ refl | false ↦ refl ] ];
 }

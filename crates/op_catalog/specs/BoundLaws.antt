@@ -6,7 +6,7 @@ use Rattle.op_laws.specs.declared.width.Width.{Width}
 use Rattle.op_laws.specs.declared.width.Width.TheVariants.{W64, W96, W128}
 use Rattle.op_laws.specs.Admits.{Admits}
 use Rattle.op_laws.specs.Widths.{FitsWidth}
-use Rattle.op_laws.specs.Laws.{LiftLaws, CombineLaws, UnitLaws}
+use Rattle.op_laws.specs.Laws.{LiftLaws, CombineLaws, UnitLaws, CommuteLaws}
 use Rattle.op_catalog.specs.Numbers.{number_of, width_of}
 use Rattle.op_catalog.specs.Bounds.{bottom, top, IsBounded, IsInWidth}
 
@@ -73,3 +73,9 @@ max_unit_laws W = record {
   left = λ a n few f. max-bottom (width_of W) a f;
   right = λ a n few f. rw (max_swap a (bottom (width_of W))) (max-bottom (width_of W) a f);
 }
+
+pub min_commute_laws : (W : ℕ) → CommuteLaws int_min (IsInWidth W)
+min_commute_laws W = record { commutative = λ a m b n few fa fb. min_swap a b }
+
+pub max_commute_laws : (W : ℕ) → CommuteLaws int_max (IsInWidth W)
+max_commute_laws W = record { commutative = λ a m b n few fa fb. max_swap a b }

@@ -7,7 +7,7 @@ use Rattle.std.proofs.lemmas.Int.{ints}
 use Rattle.op_laws.specs.declared.TheConstants.{MAX_ELEMENTS}
 use Rattle.op_laws.specs.declared.width.Width.{Width}
 use Rattle.op_laws.specs.Admits.{Admits}
-use Rattle.op_laws.specs.Laws.{LiftLaws, CombineLaws, UnitLaws}
+use Rattle.op_laws.specs.Laws.{LiftLaws, CombineLaws, UnitLaws, CommuteLaws}
 use Rattle.op_catalog.specs.Numbers.{number_of}
 use Rattle.op_catalog.specs.Sums.{IsSummed, sum_type, IsSumOf}
 
@@ -51,6 +51,9 @@ sum_unit_laws W = record {
   left = λ a n few fits. omega (arith, ints);
   right = λ a n few fits. omega (arith, ints);
 }
+
+pub sum_commute_laws : (W : ℕ) → CommuteLaws (λ a b. a +ℤ b) (IsSumOf W)
+sum_commute_laws W = record { commutative = λ a m b n few fa fb. omega (arith, ints) }
 
 -- the sum of two numbers that the weights keep small
 pub sums_signed : (W : ℕ) (a : ℤ) (m : ℕ) (b : ℤ) (n : ℕ) → m + n ≤ MAX_ELEMENTS → IsSumOf W a m → IsSumOf W b n → FitsSigned w128 (a +ℤ b)

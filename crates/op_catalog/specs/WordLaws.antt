@@ -1,12 +1,13 @@
 -- Operators on one number of w64 obey the laws.
 use Rattle.std.proofs.Common.{◌≡◌, ℤ, pos, ◌*ℤ◌, List, [], ◌∷◌, FitsSigned, ap, sym, ◌∙◌, arith}
 use Rattle.std.specs.Int.{int_wrap, w64}
+use Rattle.std.proofs.Math.IntN.{*ℤ_comm}
 use Rattle.std.proofs.lemmas.Int.{ints, int_wrap_fits, SFits-int_wrap, int_wrap-mul_left, int_wrap-mul_right}
 use Rattle.op_laws.specs.declared.width.Width.{Width}
 use Rattle.op_laws.specs.declared.width.Width.TheVariants.{W64}
 use Rattle.op_laws.specs.Admits.{Admits}
 use Rattle.op_laws.specs.Widths.{FitsWidth}
-use Rattle.op_laws.specs.Laws.{LiftLaws, CombineLaws, UnitLaws}
+use Rattle.op_laws.specs.Laws.{LiftLaws, CombineLaws, UnitLaws, CommuteLaws}
 use Rattle.op_catalog.specs.Numbers.{number_of}
 use Rattle.op_catalog.specs.Words.{IsWordType, IsWord}
 use Rattle.op_catalog.specs.Products.{wrapped_product}
@@ -62,3 +63,6 @@ product_unit_laws = record {
   left = λ a n few f. one_wrapped a f;
   right = λ a n few f. wrapped_one a f;
 }
+
+pub product_commute_laws : CommuteLaws wrapped_product IsWord
+product_commute_laws = record { commutative = λ a m b n few fa fb. ap (int_wrap w64) (*ℤ_comm a b) }

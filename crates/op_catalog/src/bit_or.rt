@@ -7,10 +7,10 @@ ghost use Rattle.op_catalog.specs.Numbers.{number_of, numbers_of};
 ghost use Rattle.op_catalog.specs.Words.{IsWordType, IsWord};
 ghost use Rattle.op_catalog.specs.Bits.{HasBits, number_with, set_in_some};
 ghost use Rattle.op_catalog.specs.WordLaws.{word_lift_laws};
-ghost use Rattle.op_catalog.specs.BitLaws.{bitwise_combine_laws, bitwise_unit_laws, or_bits};
+ghost use Rattle.op_catalog.specs.BitLaws.{bitwise_combine_laws, bitwise_unit_laws, bitwise_commute_laws, or_bits};
 
 use crate::words::{is_word_type, word_of};
-use op_laws::{ElemType, Lifted, Monoid, Semi, Tup};
+use op_laws::{Commutative, ElemType, Lifted, Monoid, Semi, Tup};
 
 /// Of elements of one number of w64 the number whose bits are those that are set in some, in two's
 /// complement. Of no element it is 0.
@@ -83,4 +83,8 @@ impl Monoid for Or {
     }
 
     ghost unit_laws = { λ _. bitwise_unit_laws or_bits };
+}
+
+impl Commutative for Or {
+    ghost commute_laws = { λ _. bitwise_commute_laws or_bits };
 }

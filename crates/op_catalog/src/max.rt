@@ -5,9 +5,9 @@ ghost use Rattle.std.specs.Int.{int_max};
 ghost use Rattle.op_laws.specs.Folds.{Reduces};
 ghost use Rattle.op_catalog.specs.Numbers.{number_of, numbers_of, width_of};
 ghost use Rattle.op_catalog.specs.Bounds.{bottom, greatest_of, IsGreatest, IsBounded, IsInWidth};
-ghost use Rattle.op_catalog.specs.BoundLaws.{bound_lift_laws, max_combine_laws, max_unit_laws};
+ghost use Rattle.op_catalog.specs.BoundLaws.{bound_lift_laws, max_combine_laws, max_unit_laws, max_commute_laws};
 
-use op_laws::{ElemType, Lifted, Monoid, Semi, Tup, Width};
+use op_laws::{Commutative, ElemType, Lifted, Monoid, Semi, Tup, Width};
 
 const MIN_96: i128 = -39614081257132168796771975168;
 
@@ -95,4 +95,8 @@ impl<const W: u32> Monoid for Max<W> {
     }
 
     ghost unit_laws = { λ _. max_unit_laws W };
+}
+
+impl<const W: u32> Commutative for Max<W> {
+    ghost commute_laws = { λ _. max_commute_laws W };
 }

@@ -5,9 +5,9 @@ ghost use Rattle.std.specs.Int.{int_min};
 ghost use Rattle.op_laws.specs.Folds.{Reduces};
 ghost use Rattle.op_catalog.specs.Numbers.{number_of, numbers_of, width_of};
 ghost use Rattle.op_catalog.specs.Bounds.{top, least_of, IsLeast, IsBounded, IsInWidth};
-ghost use Rattle.op_catalog.specs.BoundLaws.{bound_lift_laws, min_combine_laws, min_unit_laws};
+ghost use Rattle.op_catalog.specs.BoundLaws.{bound_lift_laws, min_combine_laws, min_unit_laws, min_commute_laws};
 
-use op_laws::{ElemType, Lifted, Monoid, Semi, Tup, Width};
+use op_laws::{Commutative, ElemType, Lifted, Monoid, Semi, Tup, Width};
 
 const MAX_96: i128 = 39614081257132168796771975167;
 
@@ -95,4 +95,8 @@ impl<const W: u32> Monoid for Min<W> {
     }
 
     ghost unit_laws = { λ _. min_unit_laws W };
+}
+
+impl<const W: u32> Commutative for Min<W> {
+    ghost commute_laws = { λ _. min_commute_laws W };
 }

@@ -6,10 +6,10 @@ ghost use Rattle.op_laws.specs.Folds.{Reduces};
 ghost use Rattle.op_catalog.specs.Numbers.{number_of, numbers_of};
 ghost use Rattle.op_catalog.specs.Words.{IsWordType, IsWord};
 ghost use Rattle.op_catalog.specs.Products.{product_of, wrapped_product};
-ghost use Rattle.op_catalog.specs.WordLaws.{word_lift_laws, product_combine_laws, product_unit_laws};
+ghost use Rattle.op_catalog.specs.WordLaws.{word_lift_laws, product_combine_laws, product_unit_laws, product_commute_laws};
 
 use crate::words::{is_word_type, word_of};
-use op_laws::{ElemType, Lifted, Monoid, Semi, Tup};
+use op_laws::{Commutative, ElemType, Lifted, Monoid, Semi, Tup};
 
 /// The product of elements of one number of w64, modulo 2^64: the one number of w64 that differs
 /// from it by a multiple of 2^64.
@@ -80,4 +80,8 @@ impl Monoid for Mul {
     }
 
     ghost unit_laws = { λ _. product_unit_laws };
+}
+
+impl Commutative for Mul {
+    ghost commute_laws = { λ _. product_commute_laws };
 }

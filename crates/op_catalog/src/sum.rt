@@ -4,9 +4,9 @@ ghost use Rattle.std.specs.Prelude.{◌≡◌, ◌⊎◌, [], ◌∷◌, ◌+ℤ
 ghost use Rattle.op_laws.specs.Folds.{Reduces};
 ghost use Rattle.op_catalog.specs.Numbers.{number_of, numbers_of};
 ghost use Rattle.op_catalog.specs.Sums.{IsSummed, sum_type, IsSumOf, sum_of};
-ghost use Rattle.op_catalog.specs.SumLaws.{sum_lift_laws, sum_combine_laws, sum_unit_laws};
+ghost use Rattle.op_catalog.specs.SumLaws.{sum_lift_laws, sum_combine_laws, sum_unit_laws, sum_commute_laws};
 
-use op_laws::{ElemType, Lifted, Monoid, Semi, Tup, Width};
+use op_laws::{Commutative, ElemType, Lifted, Monoid, Semi, Tup, Width};
 
 /// The sum of elements of one number of W bits, where W is 64 or 96. The result has one number of
 /// the next width.
@@ -89,4 +89,8 @@ impl<const W: u32> Monoid for Sum<W> {
     }
 
     ghost unit_laws = { λ _. sum_unit_laws W };
+}
+
+impl<const W: u32> Commutative for Sum<W> {
+    ghost commute_laws = { λ _. sum_commute_laws W };
 }
