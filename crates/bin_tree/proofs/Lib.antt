@@ -7,3 +7,4 @@ pub mod RosesFromLemmas
 pub mod Rows
 pub mod ShapeLemmas
 pub mod Places
+pub mod AcceptedLemmas

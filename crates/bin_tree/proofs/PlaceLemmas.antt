@@ -34,10 +34,10 @@ stays_closed (suc k) (c ∷ cs) zero e = absurd (omega arith)
 stays_closed (suc k) (c ∷ cs) (suc i) e = stays_closed (k + c) cs i e
 
 module _ (cs : List ℕ) where
-  whole-closed : (i : ℕ) → IsWhole cs → IsClosedAt cs i → ⊥
+  pub whole-closed : (i : ℕ) → IsWhole cs → IsClosedAt cs i → ⊥
   whole-closed i w c = let p = w.first i c.within in let e = c.closed in omega arith
 
-  whole-short : IsWhole cs → IsShort cs → ⊥
+  pub whole-short : IsWhole cs → IsShort cs → ⊥
   whole-short w s = let e = w.closed in omega arith
 
   short-closed : (i : ℕ) → IsShort cs → IsClosedAt cs i → ⊥

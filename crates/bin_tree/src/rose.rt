@@ -2,7 +2,7 @@
 
 ghost use Rattle.std.specs.Prelude.{◌≡◌, ℕ, ◌<◌, ◌≤◌, ◌^◌, ◌↔◌, [], ◌∷◌, length, slice_index, slice_index_or, IsTrue, IfOk, IsErrOf, MatchResult};
 ghost use Rattle.op_laws.specs.Admits.{Admits};
-ghost use Rattle.bin_tree.specs.Roses.{size, degree, sub_at, counts_of, values_of, Each, IsRoseOf, IsOnlyRoseOf};
+ghost use Rattle.bin_tree.specs.Roses.{size, degree, sub_at, counts_of, values_of, Each, TypedRose, IsRoseOf, IsOnlyRoseOf};
 ghost use Rattle.bin_tree.specs.Places.{IsClosedAt, IsShort, IsWhole};
 ghost use Rattle.bin_tree.specs.Faults.{IsCause};
 
@@ -53,6 +53,8 @@ impl Rose {
         requires few { length counts.items ≤ MAX_ROSE_NODES }
         ensures ok { IfOk result (IsRoseOf counts.items values) }
         ensures only { IfOk result (IsOnlyRoseOf counts.items values) }
+        // The preorder of a rose tree is never at fault.
+        ensures given { (r : TypedRose) → IsRoseOf counts.items values r → MatchResult result (λ s. s ≡ r) (λ fault. fault ≡ TreeFault.Memory) }
         ensures closed { (i : ℕ) → IsErrOf result (TreeFault.Closed i) ↔ IsClosedAt counts.items i }
         ensures short { IsErrOf result TreeFault.Short ↔ IsShort counts.items }
     {

@@ -2,7 +2,7 @@
 
 ghost use Rattle.std.specs.Prelude.{◌≡◌, ℕ, ◌+◌, ◌<◌, ◌≤◌, ◌^◌, ◌↔◌, true, false, [], ◌∷◌, length, map, slice_index_or, IsTrue, IfOk, IsErrOf, MatchResult};
 ghost use Rattle.op_laws.specs.Admits.{Admits};
-ghost use Rattle.bin_tree.specs.Trees.{BTree, size, is_leaf, top, sub_at, column, marks_of, values_of, Each, IsTreeOf, IsOnlyTreeOf};
+ghost use Rattle.bin_tree.specs.Trees.{BTree, size, is_leaf, top, sub_at, column, marks_of, values_of, Each, TypedTree, IsTreeOf, IsOnlyTreeOf};
 ghost use Rattle.bin_tree.specs.Places.{IsClosedAt, IsShort, IsWhole, arity};
 ghost use Rattle.bin_tree.specs.Faults.{IsCause};
 ghost use Rattle.bin_tree.specs.Columns.{tree_from, IsSizedFrom};
@@ -63,6 +63,8 @@ impl Tree {
         requires { length leaf.items ≡ length values.items }
         ensures ok { IfOk result (IsTreeOf leaf.items values) }
         ensures only { IfOk result (IsOnlyTreeOf leaf.items values) }
+        // The preorder of a tree is never at fault.
+        ensures given { (t : TypedTree) → IsTreeOf leaf.items values t → MatchResult result (λ u. u ≡ t) (λ fault. fault ≡ TreeFault.Memory) }
         ensures closed { (i : ℕ) → IsErrOf result (TreeFault.Closed i) ↔ IsClosedAt (map arity leaf.items) i }
         ensures short { IsErrOf result TreeFault.Short ↔ IsShort (map arity leaf.items) }
     {

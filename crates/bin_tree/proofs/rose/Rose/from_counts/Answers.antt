@@ -1,7 +1,9 @@
-use Rattle.std.proofs.Common.{refl, sym, arith}
+use Rattle.std.proofs.Common.{◌≡◌, refl, sym, subst, arith}
+use Rattle.bin_tree.specs.Places.{IsWhole}
 use Rattle.bin_tree.specs.Roses.{degree}
 use Rattle.bin_tree.specs.Columns.{rose_from}
 use Rattle.bin_tree.proofs.PlaceLemmas.{passed_on, closed_exactly, short_exactly}
+use Rattle.bin_tree.proofs.AcceptedLemmas.{whole_rose, only_memory}
 use Rattle.bin_tree.proofs.RoseLemmas.{length-kept}
 use Rattle.bin_tree.proofs.RosesFromLemmas.{columns-rose_from, IsRoseOf-rose_from, IsOnlyRoseOf-rose_from}
 use Rattle.bin_tree.proofs.rose.Rose.from_counts.Goals as goal
@@ -37,3 +39,13 @@ returns-clause-ok c =
 
 pub returns-clause-only : goal.returns-clause-only
 returns-clause-only c = IsOnlyRoseOf-rose_from c.args.counts.items c.args.values
+
+pub returns-in_err-check_counts-clause-given : goal.returns-in_err-check_counts-clause-given
+returns-in_err-check_counts-clause-given c = λ r of.
+    let cs = c.args.counts.items in
+    let cause = rw c.deref.ensures.value at c.in_err-check_counts.ensures in
+    let whole = subst IsWhole of.counts (whole_rose r.rose) in
+    only_memory cs c.from_residual.result c.in_err-check_counts.field-0.0 (λ s. s ≡ r) c.from_residual.ensures.1 cause whole
+
+pub returns-clause-given : goal.returns-clause-given
+returns-clause-given c = λ r of. sym (IsOnlyRoseOf-rose_from c.args.counts.items c.args.values r of)
