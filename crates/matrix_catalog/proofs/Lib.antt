@@ -1,0 +1,4 @@
+pub mod RowFolds
+pub mod PairLemmas
+pub mod CommutingLemmas
+pub mod GridTables
